@@ -1,0 +1,18 @@
+-- Answers as document 01 numbers them, and what lent memory holds after one.
+use Prim.Native.Nat.{ℕ}
+use mathlib.Core.List.{List, _++_}
+use lib.ListN.{length, drop}
+
+-- accepted, with the values handed back; or refused by number, with what is returned with it
+pub data Answer : Type 0 where
+  accepted : List ℕ → Answer
+  refused : ℕ → List ℕ → Answer
+
+-- the first where the answer accepts, the second where it refuses
+unfoldable pub ifAccepted {ℓ} : {A : Type ℓ} → Answer → A → A → A
+ifAccepted (accepted vs) a b = a
+ifAccepted (refused n vs) a b = b
+
+-- lent room with a text at its start, its bytes beyond that text as they were
+unfoldable pub placed : List ℕ → List ℕ → List ℕ
+placed text room = text ++ drop (length text) room

@@ -1,0 +1,25 @@
+-- The lines of a plain text: its parts between LF bytes. A text has always at least one line, the empty text too.
+use Prim.Native.Nat.{ℕ}
+use mathlib.Core.Bool.{cond}
+use mathlib.Core.List.{List, [], _∷_, _++_}
+use lib.Dec.{eqb}
+use Rattle.format.specs.Bytes.{lf}
+
+-- the lines with one byte more at the start of the first
+unfoldable pub onFirst : ℕ → List (List ℕ) → List (List ℕ)
+onFirst b [] = (b ∷ []) ∷ []
+onFirst b (l ∷ ls) = (b ∷ l) ∷ ls
+
+unfoldable pub split : List ℕ → List (List ℕ)
+split [] = [] ∷ []
+split (b ∷ s) = cond (eqb b lf) ([] ∷ split s) (onFirst b (split s))
+
+-- each line after an LF
+unfoldable pub endedLines : List (List ℕ) → List ℕ
+endedLines [] = []
+endedLines (l ∷ ls) = lf ∷ (l ++ endedLines ls)
+
+-- the text that has these lines
+unfoldable pub join : List (List ℕ) → List ℕ
+join [] = []
+join (l ∷ ls) = l ++ endedLines ls

@@ -1,0 +1,9 @@
+-- The laws that other crates cite, each file on one subject.
+pub mod Tests
+pub mod Sequences
+pub mod Newlines
+pub mod Repair
+pub mod Plainness
+pub mod Seams
+pub mod PlainText
+pub mod Lines

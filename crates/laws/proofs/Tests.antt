@@ -1,0 +1,43 @@
+-- Facts on Boolean tests and on small lists that the kit's libraries lack.
+use Prim.Native.Nat.{ℕ, zero, suc}
+use mathlib.Core.Path.{_≡_, refl}
+use mathlib.Core.Bool.{Bool, true, false, not, _&&_, false≢true}
+use mathlib.Core.List.{List, [], _∷_, _++_}
+use lib.Dec.{eqb}
+use lib.ListN.{take}
+
+pub and-left : (a b : Bool) → a && b ≡ true → a ≡ true
+and-left true b e = refl
+and-left false b e = e
+
+pub and-right : (a b : Bool) → a && b ≡ true → b ≡ true
+and-right true b e = e
+and-right false b e = absurd (false≢true e)
+
+pub and-both : (a b : Bool) → a ≡ true → b ≡ true → a && b ≡ true
+and-both a b p q = rw (p, q)
+
+-- by cases on a test, with what it says in hand
+pub by-test {ℓ} : {P : Type ℓ} (b : Bool) → (b ≡ true → P) → (b ≡ false → P) → P
+by-test true t f = t refl
+by-test false t f = f refl
+
+-- a byte that stands nowhere in a text
+unfoldable pub absent : ℕ → List ℕ → Bool
+absent c [] = true
+absent c (b ∷ s) = not (eqb b c) && absent c s
+
+pub absent-append : (c : ℕ) (s t : List ℕ) → absent c s ≡ true → absent c t ≡ true → absent c (s ++ t) ≡ true
+unfolding absent
+absent-append c [] t p q = q
+absent-append c (b ∷ s) t p q =
+    and-both (not (eqb b c)) (absent c (s ++ t)) (and-left (not (eqb b c)) (absent c s) p)
+    (absent-append c s t (and-right (not (eqb b c)) (absent c s) p) q)
+
+pub absent-take : (c n : ℕ) (s : List ℕ) → absent c s ≡ true → absent c (take n s) ≡ true
+unfolding absent
+absent-take c zero s p = refl
+absent-take c (suc n) [] p = refl
+absent-take c (suc n) (b ∷ s) p =
+    and-both (not (eqb b c)) (absent c (take n s)) (and-left (not (eqb b c)) (absent c s) p)
+    (absent-take c n s (and-right (not (eqb b c)) (absent c s) p))
