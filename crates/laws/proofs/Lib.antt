@@ -7,3 +7,4 @@ pub mod Plainness
 pub mod Seams
 pub mod PlainText
 pub mod Lines
+pub mod Filling

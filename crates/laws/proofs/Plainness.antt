@@ -10,7 +10,7 @@ use lib.Seq.{length-take-le, drop-at}
 use borrow.Author.Tests.{ltb-true, lt-ltb, eqb-false, eq-eqb, ne-eqb, not-true}
 use Rattle.format.specs.Bytes.{nul, cr, replacement}
 use Rattle.format.specs.Plain.{Range, within, following, follow, table, startsWith, sequenceOf, sequence, illFormed, piece, repairFrom, repair, plainStart, plainFrom, firstNotPlain, Plain}
-use Rattle.laws.proofs.Tests.{and-left, and-right, by-test, absent}
+use Rattle.laws.proofs.Tests.{and-left, and-right, and-false, by-test, absent}
 use Rattle.laws.proofs.Sequences.{high, within-high, sequence-length, sequence-take, well-formed}
 use Rattle.laws.proofs.Repair.{zeroByte, broken, whole, kind, piece-whole}
 
@@ -57,6 +57,31 @@ plain-start b s n p = rw (start-is b s n p, p .stands)
 -- a text that begins with a well-formed sequence is plain as far as what follows is
 pub plain-sequence : (b : ℕ) (s : List ℕ) (n : ℕ) → Start b s n → firstNotPlain (b ∷ s) ≡ suc n + firstNotPlain (drop n s)
 plain-sequence b s n p = omega (arith, plain-start b s n p, plain-pass n s (sequence-length b s n (p .stands)))
+
+-- where a text stops to be plain
+plain-stop : (b : ℕ) (s : List ℕ) → plainStart (b ∷ s) ≡ false → firstNotPlain (b ∷ s) ≡ 0
+unfolding plainFrom
+plain-stop b s e = rw e
+
+begins : (b c : ℕ) (s : List ℕ) → b ≡ c → not (startsWith (c ∷ []) (b ∷ s)) ≡ false
+unfolding startsWith
+begins b c s e = rw (eq-eqb b c e)
+
+pub plain-nul : (b : ℕ) (s : List ℕ) → b ≡ nul → firstNotPlain (b ∷ s) ≡ 0
+unfolding plainStart
+plain-nul b s e = plain-stop b s (rw (begins b nul s e))
+
+pub plain-cr : (b : ℕ) (s : List ℕ) → b ≡ cr → firstNotPlain (b ∷ s) ≡ 0
+unfolding plainStart
+plain-cr b s e =
+    plain-stop b s
+    (rw (and-false (not (startsWith (nul ∷ []) (b ∷ s))) (not (startsWith (cr ∷ []) (b ∷ s))) (begins b cr s e)))
+
+pub plain-broken : (b : ℕ) (s : List ℕ) → sequence (b ∷ s) ≡ 0 → firstNotPlain (b ∷ s) ≡ 0
+unfolding plainStart
+plain-broken b s e =
+    plain-stop b s
+    (and-false (not (startsWith (nul ∷ []) (b ∷ s)) && not (startsWith (cr ∷ []) (b ∷ s))) (ltb 0 (sequence (b ∷ s))) (rw e))
 
 plain-whole : (b : ℕ) (s : List ℕ) (n : ℕ) (t : List ℕ) → Start b s n → firstNotPlain (b ∷ (take n s ++ t)) ≡ suc n + firstNotPlain t
 plain-whole b s n t p =

@@ -8,11 +8,19 @@ use native.Mathlib.Omega.{arith}
 use lib.Dec.{eqb}
 use lib.ListN.{length, take, drop, length-append, length-take}
 use lib.Seq.{take-append-le}
-use borrow.Author.Tests.{eqb-true, eqb-false, ne-eqb}
+use borrow.Author.Tests.{eqb-true, eqb-false, eq-eqb, ne-eqb}
 use Rattle.format.specs.Bytes.{nul, lf, replacement}
 use Rattle.format.specs.Plain.{startsWith, sequence, illFormed, kept, piece, repairFrom, repair}
 use Rattle.laws.proofs.Tests.{and-right, by-test, absent, absent-append, absent-take}
 use Rattle.laws.proofs.Sequences.{sequence-length, sequence-seam, sequence-ascii}
+
+pub piece-nul : (b : ℕ) (s : List ℕ) → b ≡ nul → piece (b ∷ s) ≡ record { more = 0; out = replacement }
+unfolding piece startsWith
+piece-nul b s z = rw (eq-eqb b nul z)
+
+pub piece-broken : (b : ℕ) (s : List ℕ) → (b ≡ nul → ⊥) → sequence (b ∷ s) ≡ 0 → piece (b ∷ s) ≡ illFormed (b ∷ s)
+unfolding piece startsWith kept
+piece-broken b s z q = rw (ne-eqb b nul z, q)
 
 pub piece-whole : (b : ℕ) (s : List ℕ) (n : ℕ) → (b ≡ nul → ⊥) → sequence (b ∷ s) ≡ suc n → piece (b ∷ s) ≡ record { more = n; out = b ∷ take n s }
 unfolding piece startsWith kept
@@ -25,14 +33,13 @@ pub data Kind (b : ℕ) (s : List ℕ) : Type 0 where
   whole : (n : ℕ) → (b ≡ nul → ⊥) → sequence (b ∷ s) ≡ suc n → piece (b ∷ s) ≡ record { more = n; out = b ∷ take n s } → Kind b s
 
 pub kind : (b : ℕ) (s : List ℕ) → Kind b s
-unfolding piece startsWith kept
 kind b s =
     by-test (eqb b nul)
-    (λ y. zeroByte (eqb-true b nul y) (rw y))
+    (λ y. zeroByte (eqb-true b nul y) (piece-nul b s (eqb-true b nul y)))
     (λ n. go n (sequence (b ∷ s)) refl)
   where
     go : eqb b nul ≡ false → (k : ℕ) → sequence (b ∷ s) ≡ k → Kind b s
-    go n zero e = broken (eqb-false b nul n) e (rw (n, e))
+    go n zero e = broken (eqb-false b nul n) e (piece-broken b s (eqb-false b nul n) e)
     go n (suc k) e = whole k (eqb-false b nul n) e (piece-whole b s k (eqb-false b nul n) e)
 
 -- two texts with one first byte begin with the same piece where their sequences are the same

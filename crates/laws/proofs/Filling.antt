@@ -1,0 +1,47 @@
+-- Lent room that is filled from its start with a list, piece by piece: what a loop that writes bytes, or rows, has done after n of them.
+use Prim.Native.Nat.{ℕ, suc, _+_, _≤_, _<_}
+use mathlib.Core.Path.{_≡_, refl, sym, ap, _∙_}
+use mathlib.Core.List.{List, [], _∷_, _++_}
+use native.Mathlib.Nat.{add-zero}
+use native.Mathlib.Omega.{arith}
+use lib.ListN.{length, getD, take, drop, set, length-append, length-drop}
+use lib.Seq.{take-suc, drop-cons, append-snoc, set-at, sets, take-length, length-take-le}
+
+module _ {ℓ} {A : Type ℓ} (whole room : List A) where
+  -- the first n of the whole, and the room's own rest
+  abbrev pub filled : ℕ → List A
+  filled n = take n whole ++ drop n room
+
+  module _ (fits : length whole ≤ length room) where
+    filled-set :
+        (n : ℕ) (a : A) (r : List A)
+        → drop n whole ≡ a ∷ r
+        → (set (filled n) n a ≡ filled (suc n)) × (drop (suc n) whole ≡ r)
+    filled-set n a r e =
+        let l : n < length whole = omega (arith, ap length e, length-drop n whole) in
+        let f : getD whole n a ∷ drop (suc n) whole ≡ a ∷ r = sym (drop-cons whole n a l) ∙ e in
+        let same : getD whole n a ≡ a = cc in (
+          rw (drop-cons room n a (omega arith), take-suc whole n a l, same)
+              (set-at (take n whole) (getD room n a) (drop (suc n) room) a n (length-take-le n whole (omega arith))
+              ∙ sym (append-snoc (take n whole) a (drop (suc n) room))),
+          cc,
+        )
+
+    -- a piece of the whole is stored behind what is there
+    pub filled-sets :
+        (o : List A) (n : ℕ) (r : List A)
+        → drop n whole ≡ o ++ r
+        → (sets (filled n) n o ≡ filled (n + length o)) × (drop (n + length o) whole ≡ r)
+    filled-sets [] n r e = rw (add-zero n) (refl, e)
+    filled-sets (a ∷ o) n r e =
+        let s = filled-set n a (o ++ r) e in
+        let t = filled-sets o (suc n) r (s .1) in
+        let k : n + suc (length o) ≡ suc n + length o = omega arith in
+        rw (k, s .0) t
+
+    pub filled-length : (n : ℕ) → n ≤ length whole → length (filled n) ≡ length room
+    filled-length n l =
+        omega (arith, length-append (take n whole) (drop n room), length-take-le n whole l, length-drop n room)
+
+    pub filled-all : filled (length whole) ≡ whole ++ drop (length whole) room
+    filled-all = rw (take-length whole)
