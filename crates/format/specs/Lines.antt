@@ -5,14 +5,18 @@ use mathlib.Core.List.{List, [], _∷_, _++_}
 use lib.Dec.{eqb}
 use Rattle.format.specs.Bytes.{lf}
 
--- the lines with one byte more at the start of the first
+-- one byte more at the start of the first line
 unfoldable pub onFirst : ℕ → List (List ℕ) → List (List ℕ)
 onFirst b [] = (b ∷ []) ∷ []
 onFirst b (l ∷ ls) = (b ∷ l) ∷ ls
 
+-- LF ends a line, any other byte begins the line that follows it
+unfoldable pub before : ℕ → List (List ℕ) → List (List ℕ)
+before b ls = cond (eqb b lf) ([] ∷ ls) (onFirst b ls)
+
 unfoldable pub split : List ℕ → List (List ℕ)
 split [] = [] ∷ []
-split (b ∷ s) = cond (eqb b lf) ([] ∷ split s) (onFirst b (split s))
+split (b ∷ s) = before b (split s)
 
 -- each line after an LF
 unfoldable pub endedLines : List (List ℕ) → List ℕ

@@ -8,12 +8,7 @@ use mathlib.Core.Path.{_≡_}
 use lib.Dec.{leb, ltb, eqb}
 use lib.ListN.{length, take, drop}
 use Rattle.format.specs.Bytes.{nul, lf, cr, byteOrderMark, replacement}
-
--- does the text begin with these bytes
-unfoldable pub startsWith : List ℕ → List ℕ → Bool
-startsWith [] s = true
-startsWith (p ∷ ps) [] = false
-startsWith (p ∷ ps) (b ∷ s) = eqb b p && startsWith ps s
+use Rattle.format.specs.Texts.{startsWith}
 
 -- "Drop one leading EF BB BF."
 unfoldable pub dropBom : List ℕ → List ℕ

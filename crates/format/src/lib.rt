@@ -1,6 +1,9 @@
 // What the definitions speak of: the limits, and the answers that the public functions give.
 // The definitions themselves are in specs/; there is no algorithm here.
 
+pub mod regions;
+pub mod settings;
+
 // The greatest length in bytes of a raw file, read or made (refusal 1).
 pub const MAX_FILE: usize = 16_777_216;
 

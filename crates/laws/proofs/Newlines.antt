@@ -1,22 +1,17 @@
 -- Line ends: what `newlines` makes of two pieces joined, of a well-formed sequence, and of a text without CR.
 use Prim.Native.Nat.{ℕ, suc, _≤_}
 use mathlib.Core.Path.{_≡_, refl, sym, ap, _∙_}
-use mathlib.Core.Bool.{Bool, true, false, not, _&&_, false≢true}
+use mathlib.Core.Bool.{true, false, not, _&&_, false≢true}
 use mathlib.Core.List.{List, [], _∷_, _++_, append-assoc}
 use native.Mathlib.Omega.{arith}
 use lib.Dec.{leb, eqb}
 use lib.ListN.{length, take, drop, length-append}
 use borrow.Author.Tests.{eqb-true, eqb-false, ne-eqb, not-true}
 use Rattle.format.specs.Bytes.{lf, cr}
-use Rattle.format.specs.Plain.{startsWith, newline, newlines, Range, within, follow, sequence}
+use Rattle.format.specs.Texts.{startsWith, endsWith}
+use Rattle.format.specs.Plain.{newline, newlines, Range, within, follow, sequence}
 use Rattle.laws.proofs.Tests.{and-left, and-right, by-test, absent, absent-append}
 use Rattle.laws.proofs.Sequences.{high, within-high, within-ascii, sequence-same, well-formed}
-
--- does the text end with this byte
-unfoldable pub endsWith : ℕ → List ℕ → Bool
-endsWith c [] = false
-endsWith c (b ∷ []) = eqb b c
-endsWith c (b ∷ (d ∷ s)) = endsWith c (d ∷ s)
 
 pub newlines-other : (b : ℕ) (s : List ℕ) → (b ≡ cr → ⊥) → newlines (b ∷ s) ≡ b ∷ newlines s
 unfolding newlines newline

@@ -7,7 +7,8 @@ use mathlib.Core.List.{List, [], _∷_, _++_}
 use native.Mathlib.Omega.{arith}
 use lib.ListN.{length, drop, length-drop}
 use Rattle.format.specs.Bytes.{nul, lf, cr, byteOrderMark}
-use Rattle.format.specs.Plain.{startsWith, dropBom, newlines, illFormed, piece, repair, toPlain, plainText, Plain}
+use Rattle.format.specs.Texts.{startsWith}
+use Rattle.format.specs.Plain.{dropBom, newlines, illFormed, piece, repair, toPlain, plainText, Plain}
 use Rattle.laws.proofs.Tests.{by-test}
 use Rattle.laws.proofs.Newlines.{newlines-other, newlines-cr, newlines-crlf, newlines-length, newlines-absent, newlines-keeps, sequence-newlines, sequence-through}
 use Rattle.laws.proofs.Repair.{zeroByte, broken, whole, kind, piece-same, piece-ascii, repair-piece, repair-ascii, repair-length}

@@ -9,7 +9,8 @@ use lib.ListN.{length, take, drop, length-append, take-append-drop}
 use lib.Seq.{length-take-le, drop-at}
 use borrow.Author.Tests.{ltb-true, lt-ltb, eqb-false, eq-eqb, ne-eqb, not-true}
 use Rattle.format.specs.Bytes.{nul, cr, replacement}
-use Rattle.format.specs.Plain.{Range, within, following, follow, table, startsWith, sequenceOf, sequence, illFormed, piece, repairFrom, repair, plainStart, plainFrom, firstNotPlain, Plain}
+use Rattle.format.specs.Texts.{startsWith}
+use Rattle.format.specs.Plain.{Range, within, following, follow, table, sequenceOf, sequence, illFormed, piece, repairFrom, repair, plainStart, plainFrom, firstNotPlain, Plain}
 use Rattle.laws.proofs.Tests.{and-left, and-right, and-false, by-test, absent}
 use Rattle.laws.proofs.Sequences.{high, within-high, sequence-length, sequence-take, well-formed}
 use Rattle.laws.proofs.Repair.{zeroByte, broken, whole, kind, piece-whole}

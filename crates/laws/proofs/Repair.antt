@@ -10,7 +10,8 @@ use lib.ListN.{length, take, drop, length-append, length-take}
 use lib.Seq.{take-append-le}
 use borrow.Author.Tests.{eqb-true, eqb-false, eq-eqb, ne-eqb}
 use Rattle.format.specs.Bytes.{nul, lf, replacement}
-use Rattle.format.specs.Plain.{startsWith, sequence, illFormed, kept, piece, repairFrom, repair}
+use Rattle.format.specs.Texts.{startsWith}
+use Rattle.format.specs.Plain.{sequence, illFormed, kept, piece, repairFrom, repair}
 use Rattle.laws.proofs.Tests.{and-right, by-test, absent, absent-append, absent-take}
 use Rattle.laws.proofs.Sequences.{sequence-length, sequence-seam, sequence-ascii}
 

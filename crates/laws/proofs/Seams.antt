@@ -9,9 +9,10 @@ use lib.ListN.{length, drop}
 use lib.Seq.{drop-append-le}
 use borrow.Author.Tests.{ne-eqb, eqb-false, not-true}
 use Rattle.format.specs.Bytes.{lf, cr, byteOrderMark}
-use Rattle.format.specs.Plain.{startsWith, dropBom, newlines, repairFrom, repair, toPlain, plainText}
+use Rattle.format.specs.Texts.{startsWith, endsWith}
+use Rattle.format.specs.Plain.{dropBom, newlines, repairFrom, repair, toPlain, plainText}
 use Rattle.laws.proofs.Tests.{and-left, and-right, by-test, absent}
-use Rattle.laws.proofs.Newlines.{endsWith, before, newlines-other, newlines-cr, newlines-crlf, newlines-begins, newlines-seam, newlines-after-lf, newlines-after-cr}
+use Rattle.laws.proofs.Newlines.{before, newlines-other, newlines-cr, newlines-crlf, newlines-begins, newlines-seam, newlines-after-lf, newlines-after-cr}
 use Rattle.laws.proofs.Repair.{repair-seam, repair-line}
 
 -- The seams between two pieces that stand right after a whole line end, right before one, or at the end. LF after CR is one line end

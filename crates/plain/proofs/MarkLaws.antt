@@ -8,7 +8,8 @@ use lib.Dec.{eqb}
 use lib.ListN.{length, getD, drop}
 use borrow.Author.Tests.{eq-eqb, ne-eqb}
 use Rattle.format.specs.Bytes.{byteOrderMark}
-use Rattle.format.specs.Plain.{startsWith, dropBom}
+use Rattle.format.specs.Texts.{startsWith}
+use Rattle.format.specs.Plain.{dropBom}
 use Rattle.laws.proofs.Tests.{and-false}
 
 marked : (s : List ℕ) → 3 ≤ length s → startsWith byteOrderMark s ≡ eqb (getD s 0 0) 0xEF && (eqb (getD s 1 0) 0xBB && (eqb (getD s 2 0) 0xBF && true))

@@ -9,7 +9,8 @@ use lib.ListN.{length, getD, take, drop, length-append, length-drop, drop-of-len
 use lib.Seq.{drop-cons, drop-drop, length-take-le}
 use borrow.Author.Tests.{eq-eqb, ne-eqb}
 use Rattle.format.specs.Bytes.{nul, lf, cr}
-use Rattle.format.specs.Plain.{startsWith, newlines, sequence, illFormed, repairFrom, toPlain, plainFrom, firstNotPlain}
+use Rattle.format.specs.Texts.{startsWith}
+use Rattle.format.specs.Plain.{newlines, sequence, illFormed, repairFrom, toPlain, plainFrom, firstNotPlain}
 use Rattle.laws.proofs.Sequences.{sequence-length, sequence-ascii}
 use Rattle.laws.proofs.Repair.{piece-nul, piece-broken, piece-whole}
 use Rattle.laws.proofs.Plainness.{plain-sequence, plain-nul, plain-cr, plain-broken}

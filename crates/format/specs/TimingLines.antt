@@ -1,0 +1,59 @@
+-- A cue's timing line: source document 000, section 6.3, "collect WebVTT cue timings and settings", by its steps.
+use Prim.Native.Nat.{ℕ, _+_, _-_}
+use mathlib.Core.Bool.{Bool, _||_}
+use mathlib.Core.Option.{Option, none, some}
+use lib.ListN.{length}
+use Rattle.format.specs.Bytes.{white, hyphen, greater}
+use Rattle.format.specs.Texts.{Part, pastRun}
+use Rattle.format.specs.Times.{Result, failed, got, Step, _>>=_, _>>_, expect, Time, timestamp, milliseconds, overHours}
+use Rattle.format.specs.CueSettings.{CueSettings, Taken, cueSettings}
+
+-- 3, 5, 9: skip whitespace
+abbrev pub skipWhite : Step Unit
+skipWhite s = got tt (pastRun white s)
+
+-- 6, 7, 8
+unfoldable pub arrow : Step Unit
+arrow = do
+  expect hyphen
+  expect hyphen
+  expect greater
+
+pub record Times : Type 0 where
+  pub start : Time
+  pub end : Time
+
+-- 3 to 10
+unfoldable pub timings : Step Times
+timings = do
+  skipWhite
+  start ← timestamp
+  skipWhite
+  arrow
+  skipWhite
+  end ← timestamp
+  got (record { start = start; end = end })
+
+pub record Timing : Type 0 where
+  pub start : ℕ
+  pub end : ℕ
+  pub settings : CueSettings
+  pub over : Bool
+
+-- 11, 12: the settings are read from what is left, whatever stands there
+unfoldable pub withSettings : Times → Taken → Timing
+withSettings t s =
+    record {
+      start = milliseconds (t .start);
+      end = milliseconds (t .end);
+      settings = s .settings;
+      over = overHours (t .start) || overHours (t .end) || s .over;
+    }
+
+unfoldable pub timingOf : Part → Result Times → Option Timing
+timingOf line failed = none
+timingOf line (got t rest) =
+    some (withSettings t (cueSettings (record { place = line .place + (length (line .bytes) - length rest); bytes = rest })))
+
+unfoldable pub timingLine : Part → Option Timing
+timingLine line = timingOf line (timings (line .bytes))
