@@ -11,7 +11,7 @@ use borrow.Author.Tests.{eqb-true}
 use Rattle.format.specs.Bytes.{digit}
 use Rattle.format.specs.Texts.{startsWith, endsWith, withoutLast, isEmpty, all, run, pastRun}
 use Rattle.format.specs.Numbers.{numberFrom, someDigits, decimalOf, decimal, above, millionths, upTo100, percentage}
-use Rattle.format.specs.Times.{onGot, expect, hoursFirst, twoDigits, threeValues, threeDigits, inRange, timestamp, milliseconds}
+use Rattle.format.specs.Times.{onGot, expect, hoursFirst, field, threeValues, inRange, lastSteps, timestamp, milliseconds}
 use Rattle.format.specs.Examples.{Example, examples, wholeTime, readsAs, reads}
 
 sameResult : Option ℕ → Option ℕ → Bool
@@ -42,7 +42,7 @@ right-at (e ∷ es) d r zero l = result-is (reads e) (e .gives) (both (sameResul
 right-at (e ∷ es) d r (suc i) l = right-at es d (both (sameResult (reads e) (e .gives)) (right es) r .1) i (omega arith)
 
 all-right : right examples ≡ true
-unfolding right sameResult reads readsAs wholeTime timestamp milliseconds onGot expect hoursFirst twoDigits threeValues threeDigits inRange percentage upTo100 millionths above decimal decimalOf someDigits numberFrom pastRun run all isEmpty withoutLast endsWith startsWith digit
+unfolding right sameResult reads readsAs wholeTime timestamp milliseconds onGot expect hoursFirst field threeValues inRange lastSteps percentage upTo100 millionths above decimal decimalOf someDigits numberFrom pastRun run all isEmpty withoutLast endsWith startsWith digit
 all-right = refl
 
 -- each row of the table

@@ -59,42 +59,40 @@ pub record Time : Type 0 where
 unfoldable pub hoursFirst : List ℕ → Bool
 hoursFirst first = not (eqb (length first) 2) || ltb 59 (number first)
 
--- 8 to 11, 12.1 to 12.4: a colon and then exactly two digits
-unfoldable pub twoDigits : Step ℕ
-twoDigits = do
-  expect colon
+-- 8 to 11, 12.1 to 12.4, 13 to 16: a character, and then exactly n digits
+unfoldable pub field : ℕ → ℕ → Step ℕ
+field c n = do
+  expect c
   ds ← string
-  exactly 2 ds
+  exactly n ds
   got (number ds)
 
 -- 12: three values where the units are hours or another colon stands here, else two
 unfoldable pub threeValues : List ℕ → ℕ → Step Time
 threeValues first second s =
     cond (hoursFirst first || startsWith (colon ∷ []) s)
-    (onGot (twoDigits s) (λ third. got (record { hours = number first; minutes = second; seconds = third; thousandths = 0 })))
+    (onGot (field colon 2 s)
+    (λ third. got (record { hours = number first; minutes = second; seconds = third; thousandths = 0 })))
     (got (record { hours = 0; minutes = number first; seconds = second; thousandths = 0 }) s)
-
--- 13 to 16: a full stop and then exactly three digits
-unfoldable pub threeDigits : Step ℕ
-threeDigits = do
-  expect fullStop
-  ds ← string
-  exactly 3 ds
-  got (number ds)
 
 -- 17
 unfoldable pub inRange : Time → Bool
 inRange t = not (ltb 59 (t .minutes) || ltb 59 (t .seconds))
 
+-- 13 to 19
+unfoldable pub lastSteps : Time → Step Time
+lastSteps t = do
+  fourth ← field fullStop 3
+  holds (inRange t)
+  got (record { hours = t .hours; minutes = t .minutes; seconds = t .seconds; thousandths = fourth })
+
 unfoldable pub timestamp : Step Time
 timestamp = do
   aDigit
   first ← string
-  second ← twoDigits
+  second ← field colon 2
   t ← threeValues first second
-  fourth ← threeDigits
-  holds (inRange t)
-  got (record { hours = t .hours; minutes = t .minutes; seconds = t .seconds; thousandths = fourth })
+  lastSteps t
 
 -- "The time in milliseconds is 3,600,000·hours + 60,000·minutes + 1,000·seconds + thousandths."
 unfoldable pub milliseconds : Time → ℕ

@@ -8,3 +8,5 @@ pub mod Seams
 pub mod PlainText
 pub mod Lines
 pub mod Filling
+pub mod Runs
+pub mod Numbers

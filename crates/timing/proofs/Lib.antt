@@ -1,0 +1,3 @@
+-- Laws that the functions' proofs cite.
+mod NumberLaws
+mod TimeLaws

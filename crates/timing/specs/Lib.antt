@@ -1,0 +1,4 @@
+-- What the contracts of this crate's own functions say beyond `format`.
+pub mod Runs
+pub mod Numbers
+pub mod Times
