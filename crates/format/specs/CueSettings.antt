@@ -193,6 +193,5 @@ unfoldable pub spanIs : Part → Span
 spanIs p = cond (isEmpty (p .bytes)) noSpan (record { from = p .place; to = p .place + length (p .bytes) })
 
 abbrev pub settingsIs : CueSettings → Settings
-unfolding spanIs isEmpty
 settingsIs c =
     record { vertical = c .vertical; line = c .line; position = c .position; size = c .size; align = c .align; region = spanIs (c .region) }

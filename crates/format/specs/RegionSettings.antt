@@ -116,7 +116,6 @@ unfoldable pub regionSettings : Part → TakenRegion
 regionSettings p = regionFrom (takenRegion openingRegion) (tokens (p .place) (p .bytes))
 
 abbrev pub regionIs : RegionValues → Region
-unfolding spanIs isEmpty
 regionIs r =
     record { id = spanIs (r .id); width = r .width; lines = r .lines; anchor = r .anchor; viewport = r .viewport; scroll = r .scroll }
 

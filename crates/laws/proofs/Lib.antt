@@ -10,3 +10,4 @@ pub mod Lines
 pub mod Filling
 pub mod Runs
 pub mod Numbers
+pub mod Tokens

@@ -1,5 +1,5 @@
 -- Runs of bytes that pass a test, texts compared, and last bytes: at a place of a text, as a loop goes over it.
-use Prim.Native.Nat.{ℕ, suc, _+_, _-_, _≤_, _<_}
+use Prim.Native.Nat.{ℕ, zero, suc, _+_, _-_, _≤_, _<_}
 use mathlib.Core.Path.{_≡_, refl, sym, ap, _∙_}
 use mathlib.Core.Bool.{Bool, true, false, not, false≢true}
 use mathlib.Core.List.{List, [], _∷_}
@@ -7,7 +7,7 @@ use native.Mathlib.Numerals.{add-one}
 use native.Mathlib.Omega.{arith}
 use lib.Dec.{eqb, ltb}
 use lib.ListN.{length, getD, take, drop, drop-of-length-le, length-drop}
-use lib.Seq.{drop-cons, drop-drop}
+use lib.Seq.{drop-cons, drop-drop, length-take-le, take-nil}
 use borrow.Author.Tests.{eqb-true, eq-eqb, ne-eqb, ltb-true, ltb-false}
 use Rattle.format.specs.Texts.{same, all, run, pastRun, endsWith, withoutLast}
 use Rattle.laws.proofs.Tests.{by-test, and-left, and-right, and-false}
@@ -79,6 +79,25 @@ run-at p s i end h e =
       bytes = rw n at (run-take p (drop i s));
       past = pastRun-drop p (drop i s) ∙ rw (n, drop-drop (end - i) i s, k);
     }
+
+-- the first byte of a run, and that a run of the one kind or the other goes on
+pub run-first : (p : ℕ → Bool) (s : List ℕ) (i end : ℕ) → RunAt p s i end → i < end → p (getD s i 0) ≡ true
+run-first p s i end r l =
+    by-test (p (getD s i 0))
+    (λ y. y)
+    (λ n. let k = length-take-le (end - i) (drop i s) (omega (arith, r .inside, length-drop i s)) in
+    absurd (omega (arith, ap length (sym (run-stop p s i (omega (arith, r .inside)) n) ∙ r .bytes), k)))
+
+pub run-moves : (p : ℕ → Bool) (s : List ℕ) (i end : ℕ) → RunAt p s i end → i < length s → p (getD s i 0) ≡ true → i < end
+run-moves p s i end r l y =
+    let k = length-take-le (end - i) (drop i s) (omega (arith, r .inside, length-drop i s)) in
+    omega (arith, ap length (sym (run-next p s i l y) ∙ r .bytes), k)
+
+pub drop-take : (j k : ℕ) (s : List ℕ) → drop j (take k s) ≡ take (k - j) (drop j s)
+drop-take zero k s = let e : k - 0 ≡ k = omega arith in rw e
+drop-take (suc j) zero s = let e : 0 - suc j ≡ 0 = omega arith in rw e
+drop-take (suc j) (suc k) [] = sym (take-nil (suc k - suc j))
+drop-take (suc j) (suc k) (b ∷ s) = let e : suc k - suc j ≡ k - j = omega arith in rw e (drop-take j k s)
 
 pub record RunStart (p : ℕ → Bool) (s : List ℕ) (end : ℕ) : Type 0 where
   pub inside : end ≤ length s

@@ -1,3 +1,4 @@
 -- Laws that the functions' proofs cite.
 mod NumberLaws
 mod TimeLaws
+mod SettingLaws

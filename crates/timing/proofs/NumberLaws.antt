@@ -24,6 +24,11 @@ ltb-held k v l =
     (λ y. lt-ltb k (min v cap) (omega (arith, ltb-true k v y)) ∙ sym y)
     (λ n. le-ltb k (min v cap) (omega (arith, ltb-false k v n)) ∙ sym n)
 
+pub empty-is : (s : List ℕ) → length s ≡ 0 → isEmpty s ≡ true
+unfolding isEmpty
+empty-is [] l = refl
+empty-is (b ∷ s) l = absurd (omega arith)
+
 pub is-empty-not : (s : List ℕ) → 0 < length s → isEmpty s ≡ false
 unfolding isEmpty
 is-empty-not [] l = absurd (omega arith)
@@ -118,7 +123,7 @@ module _ (s : List ℕ) (end : ℕ) (r : RunStart digit s end) where
       pub decimal-fraction : all digit (drop (end + 1) s) ≡ true → decimal s ≡ some (record { whole = take end s; fraction = drop (end + 1) s })
       decimal-fraction a = fraction-is ∙ rw a
 
-none-empty : (s : List ℕ) → length s ≡ 0 → s ≡ []
+pub none-empty : (s : List ℕ) → length s ≡ 0 → s ≡ []
 none-empty [] e = refl
 none-empty (b ∷ s) e = absurd (omega arith)
 

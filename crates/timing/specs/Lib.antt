@@ -2,3 +2,4 @@
 pub mod Runs
 pub mod Numbers
 pub mod Times
+pub mod CueSettings

@@ -1,0 +1,371 @@
+// A cue's settings: one token at a time, each as what it changes.
+use super::bytes::Kind;
+use super::bytes::same_bytes;
+use super::numbers::LineNumber;
+use super::numbers::Percentage;
+use format::settings::Align;
+use format::settings::Direction;
+use format::settings::Line;
+use format::settings::LineAlign;
+use format::settings::LinePlace;
+use format::settings::Position;
+use format::settings::PositionAlign;
+use format::settings::PositionPlace;
+use format::settings::Settings;
+use format::settings::Span;
+ghost use mathlib.Core.Path.{_≡_};
+ghost use mathlib.Core.Bool.{_||_};
+ghost use Prim.Native.Nat.{_-_, _≤_};
+ghost use lib.ListN.{length, take, drop};
+ghost use Rattle.format.specs.CueSettings.{direction, alignment, lineAlign, positionAlign, cueSettings};
+ghost use Rattle.format.specs.Bytes.{percent};
+ghost use Rattle.format.specs.Texts.{endsWith};
+ghost use Rattle.format.specs.Numbers.{percentage, lineNumber};
+ghost use Rattle.timing.specs.Numbers.{percentageIs, lineNumberIs};
+ghost use Rattle.timing.specs.CueSettings.{cueNameIs, lineAlignedIs, positionAlignedIs, linePercentageChange, lineNumberChange, lineChange, positionChange, sizeChange, namedChange, changeOf, spanTo, applied, isOver, stepIs, takenIs};
+
+pub enum CueName {
+    Region,
+    Vertical,
+    Line,
+    Position,
+    Size,
+    Align,
+    Other,
+}
+
+fn cue_name(name: &[u8]) -> CueName
+    ensures { λ r. ⌜ r ≡ cueNameIs (now (name .entry)) ⌝ }
+{
+    if same_bytes(name, b"region") {
+        return CueName::Region;
+    }
+    if same_bytes(name, b"vertical") {
+        return CueName::Vertical;
+    }
+    if same_bytes(name, b"line") {
+        return CueName::Line;
+    }
+    if same_bytes(name, b"position") {
+        return CueName::Position;
+    }
+    if same_bytes(name, b"size") {
+        return CueName::Size;
+    }
+    if same_bytes(name, b"align") {
+        return CueName::Align;
+    }
+    CueName::Other
+}
+
+fn direction_of(value: &[u8], current: Direction) -> Direction
+    ensures { λ r. ⌜ r ≡ direction (now (value .entry)) current ⌝ }
+{
+    if same_bytes(value, b"rl") {
+        return Direction::Rl;
+    }
+    if same_bytes(value, b"lr") {
+        return Direction::Lr;
+    }
+    current
+}
+
+fn align_of(value: &[u8], current: Align) -> Align
+    ensures { λ r. ⌜ r ≡ alignment (now (value .entry)) current ⌝ }
+{
+    if same_bytes(value, b"start") {
+        return Align::Start;
+    }
+    if same_bytes(value, b"center") {
+        return Align::Center;
+    }
+    if same_bytes(value, b"end") {
+        return Align::End;
+    }
+    if same_bytes(value, b"left") {
+        return Align::Left;
+    }
+    if same_bytes(value, b"right") {
+        return Align::Right;
+    }
+    current
+}
+
+pub enum LineAligned {
+    Bad,
+    Good(LineAlign),
+}
+
+fn line_align(value: &[u8], current: LineAlign) -> LineAligned
+    ensures { λ r. ⌜ r ≡ lineAlignedIs (lineAlign (now (value .entry)) current) ⌝ }
+{
+    let comma = super::bytes::past(value, 0, Kind::Until(b','));
+    if comma == value.len() {
+        return LineAligned::Good(current);
+    }
+    let name = &value[comma + 1..];
+    if same_bytes(name, b"start") {
+        return LineAligned::Good(LineAlign::Start);
+    }
+    if same_bytes(name, b"center") {
+        return LineAligned::Good(LineAlign::Center);
+    }
+    if same_bytes(name, b"end") {
+        return LineAligned::Good(LineAlign::End);
+    }
+    LineAligned::Bad
+}
+
+pub enum PositionAligned {
+    Bad,
+    Good(PositionAlign),
+}
+
+fn position_align(value: &[u8], current: PositionAlign) -> PositionAligned
+    ensures { λ r. ⌜ r ≡ positionAlignedIs (positionAlign (now (value .entry)) current) ⌝ }
+{
+    let comma = super::bytes::past(value, 0, Kind::Until(b','));
+    if comma == value.len() {
+        return PositionAligned::Good(current);
+    }
+    let name = &value[comma + 1..];
+    if same_bytes(name, b"line-left") {
+        return PositionAligned::Good(PositionAlign::LineLeft);
+    }
+    if same_bytes(name, b"center") {
+        return PositionAligned::Good(PositionAlign::Center);
+    }
+    if same_bytes(name, b"line-right") {
+        return PositionAligned::Good(PositionAlign::LineRight);
+    }
+    PositionAligned::Bad
+}
+
+// What a token changes.
+pub enum Change {
+    Nothing,
+    // A number above its limit, which is not kept.
+    Over,
+    Region(Span),
+    Vertical(Direction),
+    Line(LinePlace),
+    Position(PositionPlace),
+    Size(u64),
+    Align(Align),
+}
+
+fn ends_with_percent(s: &[u8]) -> bool
+    ensures { λ r. ⌜ r ≡ endsWith percent (now (s .entry)) ⌝ }
+{
+    if s.len() == 0 {
+        return false;
+    }
+    let last = s.len() - 1;
+    s[last] == b'%'
+}
+
+fn line_percentage(place: &[u8], align: LineAlign) -> Change
+    ensures { λ r. ⌜ r ≡ linePercentageChange (percentageIs (percentage (now (place .entry)))) align ⌝ }
+{
+    match super::numbers::read_percentage(place) {
+        Percentage::Bad => Change::Nothing,
+        Percentage::Good(n) => Change::Line(LinePlace {
+            line: Line::At {
+                negative: false,
+                millionths: n,
+            },
+            snap: false,
+            align,
+        }),
+    }
+}
+
+fn line_number(place: &[u8], align: LineAlign) -> Change
+    ensures { λ r. ⌜ r ≡ lineNumberChange (lineNumberIs (lineNumber (now (place .entry)))) align ⌝ }
+{
+    match super::numbers::read_line_number(place) {
+        LineNumber::Bad => Change::Nothing,
+        LineNumber::Over => Change::Over,
+        LineNumber::Good {
+            negative,
+            millionths,
+        } => Change::Line(LinePlace {
+            line: Line::At {
+                negative,
+                millionths,
+            },
+            snap: true,
+            align,
+        }),
+    }
+}
+
+fn line_change(value: &[u8], current: LineAlign) -> Change
+    ensures { λ r. ⌜ r ≡ lineChange (now (value .entry)) current ⌝ }
+{
+    let comma = super::bytes::past(value, 0, Kind::Until(b','));
+    let place = &value[..comma];
+    let aligned = line_align(value, current);
+    let LineAligned::Good(align) = aligned else {
+        return Change::Nothing;
+    };
+    if ends_with_percent(place) {
+        return line_percentage(place, align);
+    }
+    line_number(place, align)
+}
+
+fn position_change(value: &[u8], current: PositionAlign) -> Change
+    ensures { λ r. ⌜ r ≡ positionChange (now (value .entry)) current ⌝ }
+{
+    let comma = super::bytes::past(value, 0, Kind::Until(b','));
+    let place = &value[..comma];
+    let read = super::numbers::read_percentage(place);
+    let Percentage::Good(n) = read else {
+        return Change::Nothing;
+    };
+    match position_align(value, current) {
+        PositionAligned::Bad => Change::Nothing,
+        PositionAligned::Good(align) => Change::Position(PositionPlace {
+            position: Position::At(n),
+            align,
+        }),
+    }
+}
+
+fn size_change(value: &[u8]) -> Change
+    ensures { λ r. ⌜ r ≡ sizeChange (percentageIs (percentage (now (value .entry)))) ⌝ }
+{
+    match super::numbers::read_percentage(value) {
+        Percentage::Bad => Change::Nothing,
+        Percentage::Good(n) => Change::Size(n),
+    }
+}
+
+// What the setting of this name does with its value, which stands from `from` up to the end of `s`.
+fn named_change(name: CueName, s: &[u8], from: usize, settings: Settings) -> Change
+    requires { ⌜ from ≤ length (now s) ⌝ }
+    ensures { λ r. ⌜ r ≡ namedChange name (record { place = from; bytes = drop from (now (s .entry)) }) settings ⌝ }
+{
+    let value = &s[from..];
+    match name {
+        CueName::Region => Change::Region(span(from, s.len())),
+        CueName::Vertical => {
+            let current = settings.vertical;
+            Change::Vertical(direction_of(value, current))
+        }
+        CueName::Line => {
+            let place = settings.line;
+            let current = place.align;
+            line_change(value, current)
+        }
+        CueName::Position => {
+            let place = settings.position;
+            let current = place.align;
+            position_change(value, current)
+        }
+        CueName::Size => size_change(value),
+        CueName::Align => {
+            let current = settings.align;
+            Change::Align(align_of(value, current))
+        }
+        CueName::Other => Change::Nothing,
+    }
+}
+
+fn span(from: usize, to: usize) -> Span
+    requires { ⌜ from ≤ to ⌝ }
+    ensures { λ r. ⌜ r ≡ spanTo from to ⌝ }
+{
+    if from == to {
+        return Span::NONE;
+    }
+    Span { from, to }
+}
+
+// What the token from `from` up to the end of `s` changes.
+fn token_change(s: &[u8], from: usize, settings: Settings) -> Change
+    requires { ⌜ from ≤ length (now s) ⌝ }
+    ensures { λ r. ⌜ r ≡ changeOf (record { place = from; bytes = drop from (now (s .entry)) }) settings ⌝ }
+{
+    let token = &s[from..];
+    let colon = super::bytes::past(token, 0, Kind::Until(b':'));
+    if colon == 0 {
+        return Change::Nothing;
+    }
+    if token.len() <= colon + 1 {
+        return Change::Nothing;
+    }
+    named_change(cue_name(&token[..colon]), s, from + colon + 1, settings)
+}
+
+fn apply(settings: Settings, change: Change) -> Settings
+    ensures { λ r. ⌜ r ≡ applied change settings ⌝ }
+{
+    match change {
+        Change::Nothing => settings,
+        Change::Over => settings,
+        Change::Region(name) => settings.with_region(name),
+        Change::Vertical(direction) => settings.with_vertical(direction),
+        Change::Line(place) => settings.with_line(place),
+        Change::Position(place) => settings.with_position(place),
+        Change::Size(size) => settings.with_size(size),
+        Change::Align(align) => settings.with_align(align),
+    }
+}
+
+fn is_over(change: Change) -> bool
+    ensures { λ r. ⌜ r ≡ isOver change ⌝ }
+{
+    match change {
+        Change::Nothing => false,
+        Change::Over => true,
+        Change::Region(_) => false,
+        Change::Vertical(_) => false,
+        Change::Line(_) => false,
+        Change::Position(_) => false,
+        Change::Size(_) => false,
+        Change::Align(_) => false,
+    }
+}
+
+// Settings, and whether a number was above its limit.
+pub struct CueTaken {
+    pub settings: Settings,
+    pub over: bool,
+}
+
+// The settings that stand from `from` on.
+pub fn read_settings(s: &[u8], from: usize) -> CueTaken
+    requires { ⌜ from ≤ length (now s) ⌝ }
+    ensures { λ r. ⌜ r ≡ takenIs (cueSettings (record { place = from; bytes = drop from (now (s .entry)) })) ⌝ }
+{
+    let mut i = from;
+    let mut taken = CueTaken {
+        settings: Settings::opening(),
+        over: false,
+    };
+    while i < s.len() {
+        let token = super::bytes::past(s, i, Kind::White);
+        let end = super::bytes::past(s, token, Kind::Token);
+        if token < end {
+            taken = step(&s[..end], token, taken);
+        }
+        i = end;
+    }
+    taken
+}
+
+// The token from `from` up to the end of `s`, taken into account.
+fn step(s: &[u8], from: usize, taken: CueTaken) -> CueTaken
+    requires { ⌜ from ≤ length (now s) ⌝ }
+    ensures { λ r. ⌜ r ≡ stepIs (record { place = from; bytes = drop from (now (s .entry)) }) taken ⌝ }
+{
+    let settings = taken.settings;
+    let change = token_change(s, from, settings);
+    let over = taken.over || is_over(change);
+    CueTaken {
+        settings: apply(settings, change),
+        over,
+    }
+}
