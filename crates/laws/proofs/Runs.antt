@@ -88,6 +88,18 @@ run-first p s i end r l =
     (λ n. let k = length-take-le (end - i) (drop i s) (omega (arith, r .inside, length-drop i s)) in
     absurd (omega (arith, ap length (sym (run-stop p s i (omega (arith, r .inside)) n) ∙ r .bytes), k)))
 
+-- the byte behind a run
+pastRun-first : (p : ℕ → Bool) (x : List ℕ) (b : ℕ) (r : List ℕ) → pastRun p x ≡ b ∷ r → p b ≡ false
+unfolding pastRun
+pastRun-first p [] b r e = let z : _≡_ {A = ℕ} 0 1 = cc in absurd (omega arith)
+pastRun-first p (c ∷ x) b r e =
+    by-test (p c)
+    (λ y. pastRun-first p x b r (rw y at e))
+    (λ n. let f : c ∷ x ≡ b ∷ r = rw n at e in let g : c ≡ b = cc in rw g at n)
+
+pub run-after : (p : ℕ → Bool) (s : List ℕ) (i end : ℕ) → RunAt p s i end → end < length s → p (getD s end 0) ≡ false
+run-after p s i end r l = pastRun-first p (drop i s) (getD s end 0) (drop (suc end) s) (r .past ∙ drop-cons s end 0 l)
+
 pub run-moves : (p : ℕ → Bool) (s : List ℕ) (i end : ℕ) → RunAt p s i end → i < length s → p (getD s i 0) ≡ true → i < end
 run-moves p s i end r l y =
     let k = length-take-le (end - i) (drop i s) (omega (arith, r .inside, length-drop i s)) in

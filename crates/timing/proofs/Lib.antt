@@ -1,4 +1,2 @@
 -- Laws that the functions' proofs cite.
-mod NumberLaws
-mod TimeLaws
 mod SettingLaws

@@ -26,9 +26,9 @@ use Rattle.laws.proofs.Tests.{by-test, or-true}
 use Rattle.laws.proofs.Tokens.{first-at, behind-at}
 use Rattle.timing.specs.declared.cue_settings.Change.{Change}
 use Rattle.timing.specs.declared.cue_settings.Change.the-variants as Change
-use Rattle.timing.specs.Numbers.{percentageIs, lineNumberIs}
+use Rattle.values.specs.Numbers.{percentageIs, lineNumberIs}
 use Rattle.timing.specs.CueSettings.{cueNameIs, positionAlignedIs, linePercentageChange, lineNumberChange, lineChange, positionWith, sizeChange, namedChange, changeOf, spanTo, applied, isOver, foldIs, takenIs}
-use Rattle.timing.proofs.NumberLaws.{is-empty-not, empty-is}
+use Rattle.values.proofs.NumberLaws.{is-empty-not, empty-is}
 
 -- the first c stands at k, or nowhere where k is the length
 module _ (c : ℕ) (x : List ℕ) (k : ℕ) (e : k ≡ length (beforeFirst c x)) where

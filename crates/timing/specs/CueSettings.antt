@@ -24,11 +24,11 @@ use Rattle.timing.specs.declared.cue_settings.PositionAligned.the-varian
 use Rattle.timing.specs.declared.cue_settings.Change.{Change}
 use Rattle.timing.specs.declared.cue_settings.Change.the-variants as Change
 use Rattle.timing.specs.declared.cue_settings.CueTaken.{CueTaken}
-use Rattle.timing.specs.declared.numbers.LineNumber.{LineNumber}
-use Rattle.timing.specs.declared.numbers.LineNumber.the-variants as LineNumber
-use Rattle.timing.specs.declared.numbers.Percentage.{Percentage}
-use Rattle.timing.specs.declared.numbers.Percentage.the-variants as Percentage
-use Rattle.timing.specs.Numbers.{percentageIs, lineNumberIs}
+use Rattle.values.specs.declared.numbers.LineNumber.{LineNumber}
+use Rattle.values.specs.declared.numbers.LineNumber.the-variants as LineNumber
+use Rattle.values.specs.declared.numbers.Percentage.{Percentage}
+use Rattle.values.specs.declared.numbers.Percentage.the-variants as Percentage
+use Rattle.values.specs.Numbers.{percentageIs, lineNumberIs}
 
 abbrev pub cueNameIs : List ℕ → CueName
 cueNameIs n =

@@ -1,8 +1,4 @@
 // A cue's settings: one token at a time, each as what it changes.
-use super::bytes::Kind;
-use super::bytes::same_bytes;
-use super::numbers::LineNumber;
-use super::numbers::Percentage;
 use format::settings::Align;
 use format::settings::Direction;
 use format::settings::Line;
@@ -13,6 +9,11 @@ use format::settings::PositionAlign;
 use format::settings::PositionPlace;
 use format::settings::Settings;
 use format::settings::Span;
+use values::bytes::Kind;
+use values::bytes::same_bytes;
+use values::numbers::LineNumber;
+use values::numbers::Percentage;
+use values::tokens::Token;
 ghost use mathlib.Core.Path.{_≡_};
 ghost use mathlib.Core.Bool.{_||_};
 ghost use Prim.Native.Nat.{_-_, _≤_};
@@ -21,7 +22,7 @@ ghost use Rattle.format.specs.CueSettings.{direction, alignment, lineAlign, pos
 ghost use Rattle.format.specs.Bytes.{percent};
 ghost use Rattle.format.specs.Texts.{endsWith};
 ghost use Rattle.format.specs.Numbers.{percentage, lineNumber};
-ghost use Rattle.timing.specs.Numbers.{percentageIs, lineNumberIs};
+ghost use Rattle.values.specs.Numbers.{percentageIs, lineNumberIs};
 ghost use Rattle.timing.specs.CueSettings.{cueNameIs, lineAlignedIs, positionAlignedIs, linePercentageChange, lineNumberChange, lineChange, positionChange, sizeChange, namedChange, changeOf, spanTo, applied, isOver, stepIs, takenIs};
 
 pub enum CueName {
@@ -99,7 +100,7 @@ pub enum LineAligned {
 fn line_align(value: &[u8], current: LineAlign) -> LineAligned
     ensures { λ r. ⌜ r ≡ lineAlignedIs (lineAlign (now (value .entry)) current) ⌝ }
 {
-    let comma = super::bytes::past(value, 0, Kind::Until(b','));
+    let comma = values::bytes::past(value, 0, Kind::Until(b','));
     if comma == value.len() {
         return LineAligned::Good(current);
     }
@@ -124,7 +125,7 @@ pub enum PositionAligned {
 fn position_align(value: &[u8], current: PositionAlign) -> PositionAligned
     ensures { λ r. ⌜ r ≡ positionAlignedIs (positionAlign (now (value .entry)) current) ⌝ }
 {
-    let comma = super::bytes::past(value, 0, Kind::Until(b','));
+    let comma = values::bytes::past(value, 0, Kind::Until(b','));
     if comma == value.len() {
         return PositionAligned::Good(current);
     }
@@ -167,7 +168,7 @@ fn ends_with_percent(s: &[u8]) -> bool
 fn line_percentage(place: &[u8], align: LineAlign) -> Change
     ensures { λ r. ⌜ r ≡ linePercentageChange (percentageIs (percentage (now (place .entry)))) align ⌝ }
 {
-    match super::numbers::read_percentage(place) {
+    match values::numbers::read_percentage(place) {
         Percentage::Bad => Change::Nothing,
         Percentage::Good(n) => Change::Line(LinePlace {
             line: Line::At {
@@ -183,7 +184,7 @@ fn line_percentage(place: &[u8], align: LineAlign) -> Change
 fn line_number(place: &[u8], align: LineAlign) -> Change
     ensures { λ r. ⌜ r ≡ lineNumberChange (lineNumberIs (lineNumber (now (place .entry)))) align ⌝ }
 {
-    match super::numbers::read_line_number(place) {
+    match values::numbers::read_line_number(place) {
         LineNumber::Bad => Change::Nothing,
         LineNumber::Over => Change::Over,
         LineNumber::Good {
@@ -203,7 +204,7 @@ fn line_number(place: &[u8], align: LineAlign) -> Change
 fn line_change(value: &[u8], current: LineAlign) -> Change
     ensures { λ r. ⌜ r ≡ lineChange (now (value .entry)) current ⌝ }
 {
-    let comma = super::bytes::past(value, 0, Kind::Until(b','));
+    let comma = values::bytes::past(value, 0, Kind::Until(b','));
     let place = &value[..comma];
     let aligned = line_align(value, current);
     let LineAligned::Good(align) = aligned else {
@@ -218,9 +219,9 @@ fn line_change(value: &[u8], current: LineAlign) -> Change
 fn position_change(value: &[u8], current: PositionAlign) -> Change
     ensures { λ r. ⌜ r ≡ positionChange (now (value .entry)) current ⌝ }
 {
-    let comma = super::bytes::past(value, 0, Kind::Until(b','));
+    let comma = values::bytes::past(value, 0, Kind::Until(b','));
     let place = &value[..comma];
-    let read = super::numbers::read_percentage(place);
+    let read = values::numbers::read_percentage(place);
     let Percentage::Good(n) = read else {
         return Change::Nothing;
     };
@@ -236,7 +237,7 @@ fn position_change(value: &[u8], current: PositionAlign) -> Change
 fn size_change(value: &[u8]) -> Change
     ensures { λ r. ⌜ r ≡ sizeChange (percentageIs (percentage (now (value .entry)))) ⌝ }
 {
-    match super::numbers::read_percentage(value) {
+    match values::numbers::read_percentage(value) {
         Percentage::Bad => Change::Nothing,
         Percentage::Good(n) => Change::Size(n),
     }
@@ -289,7 +290,7 @@ fn token_change(s: &[u8], from: usize, settings: Settings) -> Change
     ensures { λ r. ⌜ r ≡ changeOf (record { place = from; bytes = drop from (now (s .entry)) }) settings ⌝ }
 {
     let token = &s[from..];
-    let colon = super::bytes::past(token, 0, Kind::Until(b':'));
+    let colon = values::bytes::past(token, 0, Kind::Until(b':'));
     if colon == 0 {
         return Change::Nothing;
     }
@@ -345,15 +346,14 @@ pub fn read_settings(s: &[u8], from: usize) -> CueTaken
         settings: Settings::opening(),
         over: false,
     };
-    while i < s.len() {
-        let token = super::bytes::past(s, i, Kind::White);
-        let end = super::bytes::past(s, token, Kind::Token);
-        if token < end {
-            taken = step(&s[..end], token, taken);
-        }
-        i = end;
+    loop {
+        let found = values::tokens::next_token(s, i);
+        let Token::At { from: at, to } = found else {
+            return taken;
+        };
+        taken = step(&s[..to], at, taken);
+        i = to;
     }
-    taken
 }
 
 // The token from `from` up to the end of `s`, taken into account.

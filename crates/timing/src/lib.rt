@@ -1,5 +1,2 @@
-// Times, numbers and settings, read from a text or a part of one. Any bytes are taken; every function ends in linear time.
-mod bytes;
+// A cue's settings and its timing line. Any bytes are taken; every function ends in linear time.
 mod cue_settings;
-mod numbers;
-mod times;

@@ -4,7 +4,7 @@ use native.Mathlib.Omega.{arith}
 use Rattle.format.specs.Bytes.{percent}
 use Rattle.format.specs.Texts.{endsWith}
 use Rattle.laws.proofs.Runs.{endsWith-last}
-use Rattle.timing.proofs.NumberLaws.{none-empty}
+use Rattle.values.proofs.NumberLaws.{none-empty}
 use borrow.Author.Needs.{needs}
 use Rattle.timing.proofs.cue_settings.ends_with_percent.Statement.{statement}
 use Rattle.timing.proofs.cue_settings.ends_with_percent.Tie as tie

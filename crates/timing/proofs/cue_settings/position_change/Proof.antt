@@ -3,7 +3,7 @@ use mathlib.Core.Path.{_≡_, sym, ap, _∙_}
 use Rattle.format.specs.Bytes.{comma}
 use Rattle.format.specs.Texts.{beforeFirst}
 use Rattle.format.specs.Numbers.{percentage}
-use Rattle.timing.specs.Numbers.{percentageIs}
+use Rattle.values.specs.Numbers.{percentageIs}
 use Rattle.timing.proofs.SettingLaws.{upto}
 use borrow.Author.Needs.{needs}
 use Rattle.timing.proofs.cue_settings.position_change.Statement.{statement}

@@ -1,21 +1,23 @@
 -- `timing::cue_settings::read_settings` meets its contract: the settings so far, with the tokens that are left, give the whole.
-use Prim.Native.Nat.{_≤_, _<_, _-_}
-use mathlib.Core.Path.{_≡_, refl, sym, ap, _∙_}
-use mathlib.Core.Bool.{false}
+use Prim.Native.Nat.{_≤_, _-_}
+use mathlib.Core.Path.{_≡_, sym, ap, _∙_}
+use mathlib.Core.List.{[]}
 use native.Mathlib.Omega.{arith}
-use lib.ListN.{length, getD, drop, drop-of-length-le}
+use lib.ListN.{length, drop}
 use lib.Seq.{length-take-le}
 use borrow.Author.Needs.{needs}
-use borrow.Author.Tests.{not-true}
-use Rattle.format.specs.Bytes.{white}
 use Rattle.format.specs.Tokens.{tokens}
 use Rattle.format.specs.CueSettings.{taken, openingSettings, cueSettings}
-use Rattle.laws.proofs.Runs.{RunAt, run-at, run-first, drop-take}
-use Rattle.laws.proofs.Tokens.{inside, at-token, tokens-next, tokens-move}
+use Rattle.values.specs.Tokens.{TokenHere}
 use Rattle.timing.specs.CueSettings.{foldIs, takenIs}
 use Rattle.timing.proofs.SettingLaws.{fold-is}
 use Rattle.timing.proofs.cue_settings.read_settings.Statement.{statement}
 use Rattle.timing.proofs.cue_settings.read_settings.Tie as tie
+use Rattle.timing.proofs.cue_settings.read_settings.Reads as reads
+use Rattle.timing.proofs.cue_settings.read_settings.Lts as lts
+use Rattle.format.proofs.settings.Settings.opening.Reads as opening-reads
+use Rattle.timing.proofs.cue_settings.step.Reads as step-reads
+use Rattle.values.proofs.tokens.next_token.Reads as next-token-reads
 
 abbrev Inv-loop : tie.InvT-loop
 Inv-loop s from i₀ taken₀ i taken =
@@ -31,88 +33,56 @@ loop-holds : tie.Need-loop-holds Inv-loop μ-loop
 unfolding cueSettings
 loop-holds c =
     let args = c .before .before .args in
-    let opened : foldIs (record { settings = c .opening .result; over = false }) (tokens (args .from) (drop (args .from) (args .s .now))) ≡ takenIs (cueSettings (record { place = args .from; bytes = drop (args .from) (args .s .now) })) =
-    rw (c .opening .ensures) (fold-is (taken openingSettings) (tokens (args .from) (drop (args .from) (args .s .now)))) in
-    (omega arith, opened)
+    let whole = tokens (args .from) (drop (args .from) (args .s .now)) in
+    (omega arith, rw (c .opening .ensures) (fold-is (taken openingSettings) whole))
 
-past-requires : tie.Need-past-requires Inv-loop μ-loop
-past-requires c κs = omega arith
+next-token-requires : tie.Need-next-token-requires Inv-loop μ-loop
+next-token-requires c κs = omega arith
 
--- the whitespace, and the token behind it
-whites :
-    (c : tie.After-past Inv-loop μ-loop)
-    → let at = c .before .before in
-    RunAt white (at .before .before .before .args .s .now) (at .loop .i) (c .past .result)
-whites c =
-    let at = c .before .before in
-    run-at white (at .before .before .before .args .s .now) (at .loop .i) (c .past .result) (omega arith) (c .past .ensures)
+enum-known-found : tie.Need-enum-known-found Inv-loop μ-loop
+enum-known-found c = search needs
 
-past-requires-2 : tie.Need-past-requires-2 Inv-loop μ-loop
-past-requires-2 c κs = whites c .inside
+enum-told : tie.Need-enum-told Inv-loop μ-loop
+enum-told c = search needs
 
-word :
-    (c : tie.After-past2 Inv-loop μ-loop)
-    → RunAt inside (c .before .before .before .before .before .before .args .s .now) (c .before .past .result) (c .past2 .result)
-word c =
-    run-at inside (c .before .before .before .before .before .before .args .s .now) (c .before .past .result) (c .past2 .result) (whites (c .before) .inside)
-    (c .past2 .ensures)
+returns : tie.Need-returns Inv-loop μ-loop
+unfolding foldIs
+returns c =
+    let found = c .before .before in
+    let at = found .before in
+    let s = at .before .before .before .args .s .now in
+    let none : tokens (at .loop .i) (drop (at .loop .i) s) ≡ [] = rw (c .enum-told .given .1) at (found .next-token .ensures) in
+    sym (ap (foldIs (at .loop .taken)) none) ∙ at .loop .inv .1
 
-moves : (c : tie.After-past2 Inv-loop μ-loop) → c .before .before .before .loop .i < c .past2 .result
-moves c =
-    let at = c .before .before .before in
-    tokens-move (at .before .before .before .args .s .now) (at .loop .i) (c .before .past .result) (c .past2 .result) (whites (c .before)) (word c)
-    (c .before .before .loop-test .taken)
+-- the token that was found
+token :
+    (c : tie.After-found Inv-loop μ-loop)
+    → let at = c .before .before .before in
+    TokenHere (at .before .before .before .args .s .now) (at .loop .i) (c .found .given .0 .0) (c .found .given .0 .1 .0)
+token c = rw (c .found .given .1) at (c .before .before .next-token .ensures)
 
 slice-aggregate-step : tie.Need-slice-aggregate-step Inv-loop μ-loop
 slice-aggregate-step c =
     let found = c .before .before in
-    sym (length-take-le (found .past2 .result) (found .before .before .before .before .before .before .args .s .now) (word found .inside))
+    let s = found .before .before .before .before .before .before .args .s .now in
+    sym (length-take-le (found .found .given .0 .1 .0) s (token found .inside))
 
 step-requires : tie.Need-step-requires Inv-loop μ-loop
 step-requires c κs =
     let found = c .before .before in
     let s = found .before .before .before .before .before .before .args .s .now in
-    omega (arith, length-take-le (found .past2 .result) s (word found .inside), word found .from)
+    omega (arith, length-take-le (found .found .given .0 .1 .0) s (token found .inside), token found .some)
 
 loop-less : tie.Need-loop-less Inv-loop μ-loop
-loop-less c = let found = c .before .before .before in omega (arith, moves found, word found .inside)
+loop-less c = let t = token (c .before .before .before) in omega (arith, t .moves, t .inside)
 
 loop-again : tie.Need-loop-again Inv-loop μ-loop
 unfolding foldIs
 loop-again c =
-    let taken = c .before .before in
-    let found = taken .before in
+    let found = c .before .before .before in
     let at = found .before .before .before in
-    let s = at .before .before .before .args .s .now in
-    let token = found .before .past .result in
-    let end = found .past2 .result in
-    let w = word found in
-    let out : white (getD s token 0) ≡ false = not-true (white (getD s token 0)) (run-first inside s token end w (taken .if1 .taken)) in
-    let next = tokens-next s (at .loop .i) token (whites (found .before)) end (omega (arith, w .inside, taken .if1 .taken)) out w in
-    let folded : foldIs (c .step .result) (tokens end (drop end s)) ≡ foldIs (at .loop .taken) (tokens (at .loop .i) (drop (at .loop .i) s)) =
-    rw (c .step .ensures, next, drop-take token end s) refl in
-    (w .inside, folded ∙ at .loop .inv .1)
-
-loop-less-2 : tie.Need-loop-less-2 Inv-loop μ-loop
-loop-less-2 c = let found = c .before in omega (arith, moves found, word found .inside)
-
-loop-again-2 : tie.Need-loop-again-2 Inv-loop μ-loop
-loop-again-2 c =
-    let found = c .before in
-    let at = found .before .before .before in
-    let s = at .before .before .before .args .s .now in
-    let e : found .before .past .result ≡ found .past2 .result = omega (arith, word found .from, c .if1 .left) in
-    let skip = at-token s (at .loop .i) (found .before .past .result) (whites (found .before)) in
-    (word found .inside, rw (← e) (ap (foldIs (at .loop .taken)) (sym skip) ∙ at .loop .inv .1))
-
-returns : tie.Need-returns Inv-loop μ-loop
-unfolding foldIs tokens
-returns c =
-    let at = c .before in
-    let s = at .before .before .before .args .s .now in
-    let l : length s ≤ at .loop .i = c .loop-test .left in
-    let none : foldIs (at .loop .taken) (tokens (at .loop .i) (drop (at .loop .i) s)) ≡ at .loop .taken = rw (drop-of-length-le s l) refl in
-    sym none ∙ at .loop .inv .1
+    let t = token found in
+    (t .inside, rw (c .step .ensures) (sym (ap (foldIs (at .loop .taken)) (t .first)) ∙ at .loop .inv .1))
 
 pub read-settings-spec : {M : Type 1} → statement M
 read-settings-spec =
@@ -122,12 +92,11 @@ read-settings-spec =
     μ-loop
     opening-requires
     loop-holds
-    past-requires
-    past-requires-2
+    next-token-requires
+    enum-known-found
+    enum-told
+    returns
     slice-aggregate-step
     step-requires
     loop-less
-    loop-again
-    loop-less-2
-    loop-again-2
-    returns)
+    loop-again)

@@ -1,0 +1,207 @@
+-- `values::times::read_timestamp` meets its contract.
+use Prim.Native.Nat.{_<_}
+use mathlib.Core.Path.{_≡_, sym, ap, _∙_}
+use mathlib.Core.Bool.{_||_}
+use mathlib.Core.List.{[], _∷_}
+use native.Mathlib.Omega.{arith}
+use lib.ListN.{length, drop}
+use Rattle.format.specs.Bytes.{digit, colon}
+use Rattle.format.specs.Texts.{startsWith}
+use Rattle.format.specs.Numbers.{number, numberFrom}
+use Rattle.format.specs.Times.{Time, hoursFirst}
+use Rattle.laws.proofs.Runs.{RunAt, run-at}
+use Rattle.values.specs.Times.{stampIs}
+use Rattle.values.proofs.NumberLaws.{ltb-held}
+use Rattle.values.proofs.TimeLaws.{FieldRead, field-read, field-unread, last-held, firstDigits, first-length, stamp-no-digit, stamp-no-second, stamp-no-third, stamp-third, stamp-two}
+use borrow.Author.Needs.{needs}
+use Rattle.values.proofs.times.read_timestamp.Statement.{statement}
+use Rattle.values.proofs.times.read_timestamp.Tie as tie
+
+past-requires : tie.Need-past-requires
+past-requires c κs = search needs
+
+-- the first digits
+ran : (c : tie.After-past) → let args = c .before .before .args in RunAt digit (args .s .now) (args .at) (c .past .result)
+ran c = let args = c .before .before .args in run-at digit (args .s .now) (args .at) (c .past .result) (omega arith) (c .past .ensures)
+
+returns : tie.Need-returns
+returns c =
+    let found = c .before in
+    let args = found .before .before .args in
+    sym (ap (stampIs (length (args .s .now))) (stamp-no-digit (args .s .now) (args .at) (found .past .result) (ran found) (c .if1 .taken)))
+
+sub-number-of : tie.Need-sub-number-of
+sub-number-of c = search needs
+
+part-number-of-start : tie.Need-part-number-of-start
+part-number-of-start c = search needs
+
+part-number-of-end : tie.Need-part-number-of-end
+part-number-of-end c = ran (c .before) .inside
+
+number-of-requires : tie.Need-number-of-requires
+number-of-requires c κs = search needs
+
+read-field-requires : tie.Need-read-field-requires
+read-field-requires c κs = ran (c .before .before .before) .inside
+
+enum-known-read : tie.Need-enum-known-read
+enum-known-read c = search needs
+
+enum-told : tie.Need-enum-told
+enum-told c = search needs
+
+-- there is a first digit
+some : (c : tie.Else1) → c .before .before .before .args .at < c .before .past .result
+some c = omega (arith, ran (c .before) .from, c .if1 .left)
+
+-- the second value
+second :
+    (c : tie.After-read)
+    → let past = c .before .before .before .before .before .before in
+    FieldRead (past .before .before .args .s .now) (past .past .result) colon 2 (c .read .given .0 .0) (c .read .given .0 .1 .0)
+second c =
+    let past = c .before .before .before .before .before .before in
+    field-read (past .before .before .args .s .now) (past .past .result) colon 2 (ran past .inside) (c .read .given .0 .0) (c .read .given .0 .1 .0)
+    (sym (c .read .given .1) ∙ c .before .before .read-field .ensures)
+
+returns-2 : tie.Need-returns-2
+returns-2 c =
+    let first = c .before .before .before .before .before in
+    let past = first .before in
+    let args = past .before .before .args in
+    let s = args .s .now in
+    let unread = field-unread s (past .past .result) colon 2 (ran past .inside) (sym (c .enum-told .given .1) ∙ c .before .before .read-field .ensures) in
+    sym (ap (stampIs (length s)) (stamp-no-second s (args .at) (past .past .result) (ran past) (some first) unread))
+
+sub-has-hours : tie.Need-sub-has-hours
+sub-has-hours c = search needs
+
+has-hours-requires : tie.Need-has-hours-requires
+has-hours-requires c κs = second (c .before) .inside
+
+read-field-requires-2 : tie.Need-read-field-requires-2
+read-field-requires-2 c κs = second (c .before .before .before) .inside
+
+enum-known-third : tie.Need-enum-known-third
+enum-known-third c = search needs
+
+enum-told-2 : tie.Need-enum-told-2
+enum-told-2 c = search needs
+
+-- what `has_hours` found, of the digits themselves
+hours :
+    (c : tie.After-has-hours)
+    → let read = c .before .before in
+    let past = read .before .before .before .before .before .before in
+    let args = past .before .before .args in
+    c .has-hours .result
+    ≡ hoursFirst (firstDigits (args .s .now) (args .at) (past .past .result) (ran past))
+    || startsWith (colon ∷ []) (drop (read .read .given .0 .1 .0) (args .s .now))
+unfolding hoursFirst
+hours c =
+    let read = c .before .before in
+    let number = read .before .before .before in
+    let past = number .before .before .before in
+    let args = past .before .before .args in
+    let ds = firstDigits (args .s .now) (args .at) (past .past .result) (ran past) in
+    c .has-hours .ensures
+    ∙ rw (number .number-of .ensures, ltb-held 59 (numberFrom 0 ds) (omega arith), first-length (args .s .now) (args .at) (past .past .result) (ran past))
+
+-- the third value
+third :
+    (c : tie.After-third)
+    → let read = c .before .before .before .before .before .before in
+    let past = read .before .before .before .before .before .before in
+    FieldRead (past .before .before .args .s .now) (read .read .given .0 .1 .0) colon 2 (c .third .given .0 .0) (c .third .given .0 .1 .0)
+third c =
+    let read = c .before .before .before .before .before .before in
+    let past = read .before .before .before .before .before .before in
+    field-read (past .before .before .args .s .now) (read .read .given .0 .1 .0) colon 2 (second read .inside) (c .third .given .0 .0) (c .third .given .0 .1 .0)
+    (sym (c .third .given .1) ∙ c .before .before .read-field2 .ensures)
+
+returns-3 : tie.Need-returns-3
+returns-3 c =
+    let found = c .before .before .before .before in
+    let read = found .before .before in
+    let first = read .before .before .before .before .before in
+    let past = first .before in
+    let args = past .before .before .args in
+    let s = args .s .now in
+    let next = read .read .given .0 .1 .0 in
+    let unread = field-unread s next colon 2 (second read .inside) (sym (c .enum-told2 .given .1) ∙ c .before .before .read-field2 .ensures) in
+    sym
+    (ap (stampIs (length s))
+    (stamp-no-third s (args .at) (past .past .result) (ran past) (some first) (read .read .given .0 .0) next (second read)
+    (sym (hours found) ∙ c .before .before .before .if2 .taken) unread))
+
+finish-requires : tie.Need-finish-requires
+finish-requires c κs = third (c .before) .inside
+
+returns-4 : tie.Need-returns-4
+returns-4 c =
+    let last = c .before .before in
+    let found = last .before .before .before .before in
+    let read = found .before .before in
+    let first = read .before .before .before .before .before in
+    let past = first .before in
+    let args = past .before .before .args in
+    let s = args .s .now in
+    let ds = firstDigits s (args .at) (past .past .result) (ran past) in
+    let two = second read in
+    let three = third last in
+    let end = last .third .given .0 .1 .0 in
+    let values : Time = record { hours = number ds; minutes = two .value; seconds = three .value; thousandths = 0 } in
+    let stamp =
+    stamp-third s (args .at) (past .past .result) (ran past) (some first) (read .read .given .0 .0) (read .read .given .0 .1 .0) two
+    (sym (hours found) ∙ last .before .before .before .if2 .taken) (last .third .given .0 .0) end three in
+    c .finish .ensures
+    ∙ rw (read .before .before .before .number-of .ensures, two .held, three .held)
+    (last-held (length s) values (drop end s) ∙ ap (stampIs (length s)) (sym stamp))
+
+finish-requires-2 : tie.Need-finish-requires-2
+finish-requires-2 c κs = second (c .before .before .before) .inside
+
+returns-5 : tie.Need-returns-5
+returns-5 c =
+    let found = c .before .before in
+    let read = found .before .before in
+    let first = read .before .before .before .before .before in
+    let past = first .before in
+    let args = past .before .before .args in
+    let s = args .s .now in
+    let ds = firstDigits s (args .at) (past .past .result) (ran past) in
+    let two = second read in
+    let next = read .read .given .0 .1 .0 in
+    let values : Time = record { hours = 0; minutes = number ds; seconds = two .value; thousandths = 0 } in
+    let stamp =
+    stamp-two s (args .at) (past .past .result) (ran past) (some first) (read .read .given .0 .0) next two
+    (sym (hours found) ∙ c .before .if2 .left) in
+    c .finish2 .ensures
+    ∙ rw (read .before .before .before .number-of .ensures, two .held)
+    (last-held (length s) values (drop next s) ∙ ap (stampIs (length s)) (sym stamp))
+
+pub read-timestamp-spec : {M : Type 1} → statement M
+read-timestamp-spec =
+    tie.close
+    (tie.spec
+    past-requires
+    returns
+    sub-number-of
+    part-number-of-start
+    part-number-of-end
+    number-of-requires
+    read-field-requires
+    enum-known-read
+    enum-told
+    returns-2
+    sub-has-hours
+    has-hours-requires
+    read-field-requires-2
+    enum-known-third
+    enum-told-2
+    returns-3
+    finish-requires
+    returns-4
+    finish-requires-2
+    returns-5)

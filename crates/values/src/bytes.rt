@@ -1,0 +1,86 @@
+// Bytes, runs of bytes, and texts compared.
+ghost use mathlib.Core.Path.{_≡_};
+ghost use Prim.Native.Nat.{_+_, _≤_};
+ghost use lib.ListN.{length, drop};
+ghost use Rattle.format.specs.Bytes.{digit, white};
+ghost use Rattle.format.specs.Texts.{same, run};
+ghost use Rattle.values.specs.Runs.{passes};
+
+pub fn is_digit(b: u8) -> bool
+    ensures { λ r. ⌜ r ≡ digit b ⌝ }
+{
+    b'0' <= b && b <= b'9'
+}
+
+pub fn is_white(b: u8) -> bool
+    ensures { λ r. ⌜ r ≡ white b ⌝ }
+{
+    if b == b' ' {
+        return true;
+    }
+    if b == b'\t' {
+        return true;
+    }
+    if b == b'\n' {
+        return true;
+    }
+    if b == 0x0C {
+        return true;
+    }
+    b == b'\r'
+}
+
+// What a run is made of.
+pub enum Kind {
+    White,
+    // All but whitespace.
+    Token,
+    Digits,
+    // All but this byte.
+    Until(u8),
+    Only(u8),
+}
+
+fn goes_on(kind: Kind, b: u8) -> bool
+    ensures { λ r. ⌜ r ≡ passes kind b ⌝ }
+{
+    match kind {
+        Kind::White => is_white(b),
+        Kind::Token => !is_white(b),
+        Kind::Digits => is_digit(b),
+        Kind::Until(c) => b != c,
+        Kind::Only(c) => b == c,
+    }
+}
+
+// Where the run that stands at `at` ends.
+pub fn past(s: &[u8], at: usize, kind: Kind) -> usize
+    requires { ⌜ at ≤ length (now s) ⌝ }
+    ensures { λ r. ⌜ r ≡ at + length (run (passes kind) (drop at (now (s .entry)))) ⌝ }
+{
+    let mut i = at;
+    while i < s.len() {
+        if !goes_on(kind, s[i]) {
+            return i;
+        }
+        i += 1;
+    }
+    i
+}
+
+// Are these the same bytes.
+pub fn same_bytes(a: &[u8], b: &[u8]) -> bool
+    ensures { λ r. ⌜ r ≡ same (now (a .entry)) (now (b .entry)) ⌝ }
+{
+    if a.len() != b.len() {
+        return false;
+    }
+    let mut i = 0;
+    while i < a.len() {
+        if a[i] != b[i] {
+            return false;
+        }
+        i += 1;
+    }
+    true
+}

@@ -1,0 +1,122 @@
+// Timestamps, by the steps of the specification.
+use super::bytes::Kind;
+ghost use mathlib.Core.Path.{_≡_};
+ghost use mathlib.Core.Bool.{not, _||_};
+ghost use mathlib.Core.List.{[], _∷_};
+ghost use lib.Dec.{eqb, ltb};
+ghost use Prim.Native.Nat.{_≤_, min};
+ghost use lib.ListN.{length, drop};
+ghost use Rattle.format.specs.Bytes.{colon};
+ghost use Rattle.format.specs.Texts.{startsWith};
+ghost use Rattle.format.specs.Times.{field, lastSteps, timestamp};
+ghost use Rattle.values.specs.Numbers.{cap};
+ghost use Rattle.values.specs.Times.{fieldIs, stampIs};
+
+pub enum Field {
+    Bad,
+    Good { value: u64, next: usize },
+}
+
+pub enum Stamp {
+    Bad,
+    // The hours are above their limit; where the time ends.
+    Over { next: usize },
+    At { ms: u64, next: usize },
+}
+
+// The character `c` at `at`, and then exactly `n` digits.
+fn read_field(s: &[u8], at: usize, c: u8, n: usize) -> Field
+    requires { ⌜ at ≤ length (now s) ⌝ }
+    ensures { λ r. ⌜ r ≡ fieldIs (length (now (s .entry))) (field c n (drop at (now (s .entry)))) ⌝ }
+{
+    if at == s.len() {
+        return Field::Bad;
+    }
+    if s[at] != c {
+        return Field::Bad;
+    }
+    let from = at + 1;
+    let end = super::bytes::past(s, from, Kind::Digits);
+    if end - from != n {
+        return Field::Bad;
+    }
+    Field::Good {
+        value: super::numbers::number_of(&s[from..end]),
+        next: end,
+    }
+}
+
+// The thousandths at `at`, and the test of minutes and seconds. Each value is held at the cap.
+fn finish(s: &[u8], at: usize, hours: u64, minutes: u64, seconds: u64) -> Stamp
+    requires { ⌜ at ≤ length (now s) ⌝ }
+    ensures { λ r. ⌜ r ≡ stampIs (length (now (s .entry))) (lastSteps (record { hours = hours; minutes = minutes; seconds = seconds; thousandths = 0 }) (drop at (now (s .entry)))) ⌝ }
+{
+    let read = read_field(s, at, b'.', 3);
+    let Field::Good { value, next } = read else {
+        return Stamp::Bad;
+    };
+    if 59 < minutes {
+        return Stamp::Bad;
+    }
+    if 59 < seconds {
+        return Stamp::Bad;
+    }
+    if 99_999 < hours {
+        return Stamp::Over { next };
+    }
+    Stamp::At {
+        ms: hours * 3_600_000 + minutes * 60_000 + seconds * 1_000 + value,
+        next,
+    }
+}
+
+fn is_colon(s: &[u8], at: usize) -> bool
+    requires { ⌜ at ≤ length (now s) ⌝ }
+    ensures { λ r. ⌜ r ≡ startsWith (colon ∷ []) (drop at (now (s .entry))) ⌝ }
+{
+    if at < s.len() {
+        return s[at] == b':';
+    }
+    false
+}
+
+// Are there three values: the first has not two digits or is above 59, or a colon stands behind the second.
+fn has_hours(s: &[u8], at: usize, digits: usize, first: u64) -> bool
+    requires { ⌜ at ≤ length (now s) ⌝ }
+    ensures { λ r. ⌜ r ≡ (not (eqb digits 2) || ltb 59 first || startsWith (colon ∷ []) (drop at (now (s .entry)))) ⌝ }
+{
+    if digits != 2 {
+        return true;
+    }
+    if 59 < first {
+        return true;
+    }
+    is_colon(s, at)
+}
+
+pub fn read_timestamp(s: &[u8], at: usize) -> Stamp
+    requires { ⌜ at ≤ length (now s) ⌝ }
+    ensures { λ r. ⌜ r ≡ stampIs (length (now (s .entry))) (timestamp (drop at (now (s .entry)))) ⌝ }
+{
+    let end = super::bytes::past(s, at, Kind::Digits);
+    if end == at {
+        return Stamp::Bad;
+    }
+    let first = super::numbers::number_of(&s[at..end]);
+    let read = read_field(s, end, b':', 2);
+    let Field::Good { value, next } = read else {
+        return Stamp::Bad;
+    };
+    if has_hours(s, next, end - at, first) {
+        let third = read_field(s, next, b':', 2);
+        let Field::Good {
+            value: seconds,
+            next: last,
+        } = third
+        else {
+            return Stamp::Bad;
+        };
+        return finish(s, last, first, value, seconds);
+    }
+    finish(s, next, 0, first, value)
+}
