@@ -1,17 +1,12 @@
 -- Settings by the code's tests: values split at a comma, and what a token changes.
-use Prim.Native.Nat.{ℕ, suc, _+_, _-_, _≤_, _<_}
-use mathlib.Core.Path.{_≡_, refl, sym, ap, _∙_}
-use mathlib.Core.Bool.{true, false, not, _||_}
+use Prim.Native.Nat.{ℕ}
+use mathlib.Core.Path.{_≡_, refl}
+use mathlib.Core.Bool.{true, false, _||_}
 use mathlib.Core.List.{List, [], _∷_}
 use mathlib.Core.Option.{Option, none, some}
-use native.Mathlib.Numerals.{add-one}
-use native.Mathlib.Omega.{arith}
 use lib.Dec.{eqb}
-use lib.ListN.{length, take, drop, length-drop, drop-of-length-le}
-use lib.Seq.{take-all, drop-drop, length-take-le}
-use borrow.Author.Tests.{eqb-true, eqb-false, lt-ltb, le-ltb}
-use Rattle.format.specs.Bytes.{ascii, colon, comma, percent}
-use Rattle.format.specs.Texts.{Part, has, isEmpty, same, endsWith, beforeFirst, behindFirst, run}
+use Rattle.format.specs.Bytes.{ascii, comma, percent}
+use Rattle.format.specs.Texts.{Part, isEmpty, same, endsWith, beforeFirst}
 use Rattle.format.specs.Numbers.{percentage, LineNumber, lineNumber, overLine, isNegative, millionths}
 use Rattle.format.specs.Tokens.{nameOf, valueOf}
 use Rattle.format.specs.CueSettings.{CueSettings, Taken, taken, isHorizontal, settingsIs, spanIs, direction, lineAlign, positionAlign, setRegion, setVertical, setLine, linePercentage, lineCounted, lineSetting, setPosition, positionOf, positionSetting, setSize, sizeOf, setAlign, named, cueSetting, settingsFrom}
@@ -20,95 +15,11 @@ use Rattle.format.specs.declared.settings.LinePlace.{LinePlace}
 use Rattle.format.specs.declared.settings.LineAlign.{LineAlign}
 use Rattle.format.specs.declared.settings.PositionAlign.{PositionAlign}
 use Rattle.format.specs.declared.settings.Line.the-variants as Line
-use Rattle.format.specs.declared.settings.Settings.{Settings}
-use Rattle.laws.proofs.Runs.{run-take, run-length}
-use Rattle.laws.proofs.Tests.{by-test, or-true}
-use Rattle.laws.proofs.Tokens.{first-at, behind-at}
+use Rattle.laws.proofs.Tests.{by-test}
 use Rattle.timing.specs.declared.cue_settings.Change.{Change}
 use Rattle.timing.specs.declared.cue_settings.Change.the-variants as Change
 use Rattle.values.specs.Numbers.{percentageIs, lineNumberIs}
-use Rattle.timing.specs.CueSettings.{cueNameIs, positionAlignedIs, linePercentageChange, lineNumberChange, lineChange, positionWith, sizeChange, namedChange, changeOf, spanTo, applied, isOver, foldIs, takenIs}
-use Rattle.values.proofs.NumberLaws.{is-empty-not, empty-is}
-
--- the first c stands at k, or nowhere where k is the length
-module _ (c : ℕ) (x : List ℕ) (k : ℕ) (e : k ≡ length (beforeFirst c x)) where
-  pub front : take k x ≡ beforeFirst c x
-  unfolding beforeFirst
-  front = rw e (sym (run-take (λ b. not (eqb b c)) x))
-
-  pub has-not : k ≡ length x → has c x ≡ false
-  has-not l = first-at c x ∙ le-ltb (length (beforeFirst c x)) (length x) (omega arith)
-
-  pub has-one : k < length x → has c x ≡ true
-  has-one l = first-at c x ∙ lt-ltb (length (beforeFirst c x)) (length x) (omega arith)
-
-  pub behind : k < length x → take (length x - (k + 1)) (drop (k + 1) x) ≡ behindFirst c x
-  behind l =
-      take-all (length x - (k + 1)) (drop (k + 1) x) (omega (arith, length-drop (k + 1) x))
-      ∙ rw (add-one k, e) (sym (behind-at c x))
-
--- where the code's run up to c ends
-pub first-is : (c : ℕ) (x : List ℕ) (k : ℕ) → k ≡ 0 + length (run (λ b. not (eqb b c)) x) → k ≡ length (beforeFirst c x)
-unfolding beforeFirst
-first-is c x k e = omega arith
-
--- the part before the first c, as the code cuts it
-pub upto : (c : ℕ) (x : List ℕ) (k : ℕ) → k ≡ 0 + length (run (λ b. not (eqb b c)) x) → (take k x ≡ beforeFirst c x) × (k ≡ length (take k x))
-upto c x k e = (
-  front c x k (first-is c x k e),
-  sym (length-take-le k x (omega (arith, run-length (λ b. not (eqb b c)) x))),
-)
-
--- the rest of a slice, as the code cuts it
-pub rest-is : (s : List ℕ) (from : ℕ) → take (length s - from) (drop from s) ≡ drop from s
-rest-is s from = take-all (length s - from) (drop from s) (omega (arith, length-drop from s))
-
-pub span-is : (s : List ℕ) (from : ℕ) → from ≤ length s → spanTo from (length s) ≡ spanIs (record { place = from; bytes = drop from s })
-unfolding spanIs isEmpty
-span-is s from h =
-    by-test (eqb from (length s))
-    (λ y. let l : length s ≤ from = omega (arith, eqb-true from (length s) y) in rw (y, drop-of-length-le s l))
-    (λ n. let l : from < length s = omega (arith, eqb-false from (length s) n) in
-    let e : from + length (drop from s) ≡ length s = omega (arith, length-drop from s) in
-    rw (n, is-empty-not (drop from s) (omega (arith, length-drop from s)), e))
-
--- a token of a slice, cut at its first colon
-module _ (s : List ℕ) (from k : ℕ) (e : k ≡ length (beforeFirst colon (drop from s))) (settings : Settings) where
-  abbrev token : Part
-  token = record { place = from; bytes = drop from s }
-
-  pub no-name : k ≡ 0 → changeOf token settings ≡ Change.Nothing
-  unfolding changeOf nameOf
-  no-name z = rw (empty-is (beforeFirst colon (drop from s)) (omega arith))
-
-  pub no-value : length (drop from s) ≤ k + 1 → changeOf token settings ≡ Change.Nothing
-  unfolding changeOf nameOf valueOf isEmpty
-  no-value l =
-      let m : length (drop from s) ≤ suc k = omega arith in
-      let v : behindFirst colon (drop from s) ≡ [] = behind-at colon (drop from s) ∙ rw (← e, drop-of-length-le (drop from s) m) refl in
-      rw (v, or-true (isEmpty (beforeFirst colon (drop from s))))
-
-  pub both :
-      0 < k
-      → k + 1 < length (drop from s)
-      → changeOf token settings
-      ≡ namedChange (cueNameIs (beforeFirst colon (drop from s))) (record { place = from + k + 1; bytes = drop (from + k + 1) s }) settings
-  unfolding changeOf nameOf valueOf
-  both h l =
-      let q : from + suc k ≡ from + k + 1 = omega arith in
-      let v : behindFirst colon (drop from s) ≡ drop (from + k + 1) s =
-      behind-at colon (drop from s) ∙ rw (← e, drop-drop (suc k) from s, q) in
-      let p : from + suc (length (beforeFirst colon (drop from s))) ≡ from + k + 1 = omega arith in
-      rw (
-        v,
-        p,
-        is-empty-not (beforeFirst colon (drop from s)) (omega arith),
-        is-empty-not (drop (from + k + 1) s) (omega (arith, ap length v, length-drop (from + k + 1) s, length-drop from s)),
-      )
-
-pub before-length : (c : ℕ) (x : List ℕ) → length (beforeFirst c x) ≤ length x
-unfolding beforeFirst
-before-length c x = run-length (λ b. not (eqb b c)) x
+use Rattle.timing.specs.CueSettings.{cueNameIs, positionAlignedIs, linePercentageChange, lineNumberChange, lineChange, positionWith, sizeChange, namedChange, changeOf, applied, isOver, foldIs, takenIs}
 
 -- the code's change is the definition's setting
 pub record Agrees (h : Change) (c : CueSettings) (t : Taken) : Type 0 where

@@ -10,7 +10,6 @@ use Rattle.format.specs.Numbers.{percentage, lineNumber}
 use Rattle.format.specs.Tokens.{nameOf, valueOf}
 use Rattle.format.specs.CueSettings.{Taken, settingsIs, spanIs, isHorizontal, noSpan, direction, alignment, lineAlign, positionAlign}
 use Rattle.format.specs.declared.settings.Settings.{Settings}
-use Rattle.format.specs.declared.settings.Span.{Span}
 use Rattle.format.specs.declared.settings.LineAlign.{LineAlign}
 use Rattle.format.specs.declared.settings.PositionAlign.{PositionAlign}
 use Rattle.format.specs.declared.settings.Line.the-variants as Line
@@ -87,10 +86,6 @@ namedChange CueName.Other x s = Change.Nothing
 unfoldable pub changeOf : Part → Settings → Change
 changeOf t s =
     cond (isEmpty (nameOf t) || isEmpty (valueOf t .bytes)) Change.Nothing (namedChange (cueNameIs (nameOf t)) (valueOf t) s)
-
--- bytes from one place to another
-abbrev pub spanTo : ℕ → ℕ → Span
-spanTo from to = cond (eqb from to) noSpan (record { from = from; to = to })
 
 abbrev pub applied : Change → Settings → Settings
 applied Change.Nothing s = s

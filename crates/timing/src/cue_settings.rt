@@ -13,6 +13,7 @@ use values::bytes::Kind;
 use values::bytes::same_bytes;
 use values::numbers::LineNumber;
 use values::numbers::Percentage;
+use values::tokens::NameEnd;
 use values::tokens::Token;
 ghost use mathlib.Core.Path.{_≡_};
 ghost use mathlib.Core.Bool.{_||_};
@@ -23,7 +24,7 @@ ghost use Rattle.format.specs.Bytes.{percent};
 ghost use Rattle.format.specs.Texts.{endsWith};
 ghost use Rattle.format.specs.Numbers.{percentage, lineNumber};
 ghost use Rattle.values.specs.Numbers.{percentageIs, lineNumberIs};
-ghost use Rattle.timing.specs.CueSettings.{cueNameIs, lineAlignedIs, positionAlignedIs, linePercentageChange, lineNumberChange, lineChange, positionChange, sizeChange, namedChange, changeOf, spanTo, applied, isOver, stepIs, takenIs};
+ghost use Rattle.timing.specs.CueSettings.{cueNameIs, lineAlignedIs, positionAlignedIs, linePercentageChange, lineNumberChange, lineChange, positionChange, sizeChange, namedChange, changeOf, applied, isOver, stepIs, takenIs};
 
 pub enum CueName {
     Region,
@@ -250,7 +251,7 @@ fn named_change(name: CueName, s: &[u8], from: usize, settings: Settings) -> Cha
 {
     let value = &s[from..];
     match name {
-        CueName::Region => Change::Region(span(from, s.len())),
+        CueName::Region => Change::Region(values::tokens::span(from, s.len())),
         CueName::Vertical => {
             let current = settings.vertical;
             Change::Vertical(direction_of(value, current))
@@ -274,30 +275,15 @@ fn named_change(name: CueName, s: &[u8], from: usize, settings: Settings) -> Cha
     }
 }
 
-fn span(from: usize, to: usize) -> Span
-    requires { ⌜ from ≤ to ⌝ }
-    ensures { λ r. ⌜ r ≡ spanTo from to ⌝ }
-{
-    if from == to {
-        return Span::NONE;
-    }
-    Span { from, to }
-}
-
 // What the token from `from` up to the end of `s` changes.
 fn token_change(s: &[u8], from: usize, settings: Settings) -> Change
     requires { ⌜ from ≤ length (now s) ⌝ }
     ensures { λ r. ⌜ r ≡ changeOf (record { place = from; bytes = drop from (now (s .entry)) }) settings ⌝ }
 {
-    let token = &s[from..];
-    let colon = values::bytes::past(token, 0, Kind::Until(b':'));
-    if colon == 0 {
-        return Change::Nothing;
+    match values::tokens::name_end(s, from) {
+        NameEnd::None => Change::Nothing,
+        NameEnd::At(colon) => named_change(cue_name(&s[from..colon]), s, colon + 1, settings),
     }
-    if token.len() <= colon + 1 {
-        return Change::Nothing;
-    }
-    named_change(cue_name(&token[..colon]), s, from + colon + 1, settings)
 }
 
 fn apply(settings: Settings, change: Change) -> Settings

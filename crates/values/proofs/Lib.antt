@@ -1,3 +1,4 @@
 -- Laws that the functions' proofs cite.
 pub mod NumberLaws
+pub mod CutLaws
 mod TimeLaws

@@ -1,7 +1,7 @@
 -- `timing::cue_settings::line_change` meets its contract.
 use mathlib.Core.Path.{sym, _∙_}
 use Rattle.format.specs.Bytes.{comma}
-use Rattle.timing.proofs.SettingLaws.{upto}
+use Rattle.values.proofs.CutLaws.{upto}
 use borrow.Author.Needs.{needs}
 use Rattle.timing.proofs.cue_settings.line_change.Statement.{statement}
 use Rattle.timing.proofs.cue_settings.line_change.Tie as tie

@@ -2,7 +2,7 @@
 use mathlib.Core.Path.{ap}
 use native.Mathlib.Omega.{arith}
 use Rattle.timing.specs.declared.cue_settings.Change.the-variants as Change
-use Rattle.timing.proofs.SettingLaws.{rest-is, span-is}
+use Rattle.values.proofs.CutLaws.{rest-is, span-is}
 use borrow.Author.Needs.{needs}
 use Rattle.timing.proofs.cue_settings.named_change.Statement.{statement}
 use Rattle.timing.proofs.cue_settings.named_change.Tie as tie

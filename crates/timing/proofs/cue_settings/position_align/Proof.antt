@@ -10,7 +10,7 @@ use Rattle.format.specs.Bytes.{comma}
 use Rattle.format.specs.Texts.{beforeFirst}
 use Rattle.format.specs.CueSettings.{positionAlign}
 use Rattle.laws.proofs.Runs.{run-length}
-use Rattle.timing.proofs.SettingLaws.{has-not, has-one, behind, first-is}
+use Rattle.values.proofs.CutLaws.{has-not, has-one, behind, first-is}
 use borrow.Author.Needs.{needs}
 use Rattle.timing.proofs.cue_settings.position_align.Statement.{statement}
 use Rattle.timing.proofs.cue_settings.position_align.Tie as tie

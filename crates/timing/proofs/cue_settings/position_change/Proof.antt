@@ -4,7 +4,7 @@ use Rattle.format.specs.Bytes.{comma}
 use Rattle.format.specs.Texts.{beforeFirst}
 use Rattle.format.specs.Numbers.{percentage}
 use Rattle.values.specs.Numbers.{percentageIs}
-use Rattle.timing.proofs.SettingLaws.{upto}
+use Rattle.values.proofs.CutLaws.{upto}
 use borrow.Author.Needs.{needs}
 use Rattle.timing.proofs.cue_settings.position_change.Statement.{statement}
 use Rattle.timing.proofs.cue_settings.position_change.Tie as tie

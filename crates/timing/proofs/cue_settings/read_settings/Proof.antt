@@ -13,11 +13,6 @@ use Rattle.timing.specs.CueSettings.{foldIs, takenIs}
 use Rattle.timing.proofs.SettingLaws.{fold-is}
 use Rattle.timing.proofs.cue_settings.read_settings.Statement.{statement}
 use Rattle.timing.proofs.cue_settings.read_settings.Tie as tie
-use Rattle.timing.proofs.cue_settings.read_settings.Reads as reads
-use Rattle.timing.proofs.cue_settings.read_settings.Lts as lts
-use Rattle.format.proofs.settings.Settings.opening.Reads as opening-reads
-use Rattle.timing.proofs.cue_settings.step.Reads as step-reads
-use Rattle.values.proofs.tokens.next_token.Reads as next-token-reads
 
 abbrev Inv-loop : tie.InvT-loop
 Inv-loop s from i₀ taken₀ i taken =

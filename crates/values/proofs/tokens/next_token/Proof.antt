@@ -10,9 +10,6 @@ use Rattle.laws.proofs.Tokens.{inside, tokens-end, tokens-next}
 use borrow.Author.Needs.{needs}
 use Rattle.values.proofs.tokens.next_token.Statement.{statement}
 use Rattle.values.proofs.tokens.next_token.Tie as tie
-use Rattle.values.proofs.tokens.next_token.Reads as reads
-use Rattle.values.proofs.tokens.next_token.Lts as lts
-use Rattle.values.proofs.bytes.past.Reads as past-reads
 
 past-requires : tie.Need-past-requires
 past-requires c κs = search needs

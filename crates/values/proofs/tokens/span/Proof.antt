@@ -1,7 +1,7 @@
--- `timing::cue_settings::span` meets its contract.
+-- `values::tokens::span` meets its contract.
 use borrow.Author.Tests.{eq-eqb, ne-eqb}
-use Rattle.timing.proofs.cue_settings.span.Statement.{statement}
-use Rattle.timing.proofs.cue_settings.span.Tie as tie
+use Rattle.values.proofs.tokens.span.Statement.{statement}
+use Rattle.values.proofs.tokens.span.Tie as tie
 
 returns : tie.Need-returns
 returns c = rw (eq-eqb (c .before .args .from) (c .before .args .to) (c .if1 .taken))
