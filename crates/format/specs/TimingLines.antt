@@ -23,15 +23,20 @@ pub record Times : Type 0 where
   pub start : Time
   pub end : Time
 
+-- 5 to 10
+unfoldable pub arrowAndEnd : Step Time
+arrowAndEnd = do
+  skipWhite
+  arrow
+  skipWhite
+  timestamp
+
 -- 3 to 10
 unfoldable pub timings : Step Times
 timings = do
   skipWhite
   start ← timestamp
-  skipWhite
-  arrow
-  skipWhite
-  end ← timestamp
+  end ← arrowAndEnd
   got (record { start = start; end = end })
 
 pub record Timing : Type 0 where

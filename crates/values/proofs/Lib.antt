@@ -1,4 +1,5 @@
 -- Laws that the functions' proofs cite.
 pub mod NumberLaws
 pub mod CutLaws
+pub mod StepLaws
 mod TimeLaws

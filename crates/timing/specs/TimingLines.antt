@@ -1,0 +1,36 @@
+-- A timing line as the code holds it. `proofs/LineLaws.antt` proves that this is what `format` says.
+use Prim.Native.Nat.{ℕ, _-_}
+use mathlib.Core.Bool.{Bool, cond, _||_}
+use mathlib.Core.List.{List}
+use mathlib.Core.Option.{Option, none, some}
+use lib.ListN.{length}
+use Rattle.format.specs.Times.{Result, failed, got}
+use Rattle.format.specs.CueSettings.{settingsIs, cueSettings}
+use Rattle.format.specs.TimingLines as Format
+use Rattle.values.specs.Tokens.{tokenFrom}
+use Rattle.values.specs.declared.times.Stamp.{Stamp}
+use Rattle.values.specs.declared.times.Stamp.the-variants as Stamp
+use Rattle.timing.specs.declared.timing_line.ArrowEnd.{ArrowEnd}
+use Rattle.timing.specs.declared.timing_line.ArrowEnd.the-variants as ArrowEnd
+use Rattle.timing.specs.declared.timing_line.TimingLine.{TimingLine}
+use Rattle.timing.specs.declared.timing_line.TimingLine.the-variants as TimingLine
+
+-- n being the text's length
+abbrev pub arrowIs : ℕ → Result Unit → ArrowEnd
+arrowIs n failed = ArrowEnd.None
+arrowIs n (got u rest) = ArrowEnd.At (n - length rest)
+
+abbrev pub withSettingsIs : List ℕ → Bool → ℕ → ℕ → ℕ → TimingLine
+withSettingsIs s over start end at =
+    cond (over || cueSettings (tokenFrom s at) .over) TimingLine.Over
+    (TimingLine.Good (record { start = start; end = end; settings = settingsIs (cueSettings (tokenFrom s at) .settings) }))
+
+abbrev pub lineFrom : List ℕ → Bool → ℕ → Stamp → TimingLine
+lineFrom s over start Stamp.Bad = TimingLine.Bad
+lineFrom s over start (Stamp.Over next) = TimingLine.Over
+lineFrom s over start (Stamp.At ms next) = withSettingsIs s over start ms next
+
+abbrev pub timingLineIs : Option Format.Timing → TimingLine
+timingLineIs none = TimingLine.Bad
+timingLineIs (some t) =
+    cond (t .over) TimingLine.Over (TimingLine.Good (record { start = t .start; end = t .end; settings = settingsIs (t .settings) }))
