@@ -19,7 +19,7 @@ use Rattle.regions.specs.declared.PointRead.{PointRead}
 use Rattle.regions.specs.declared.PointRead.the-variants as PointRead
 use Rattle.regions.specs.declared.RegionChange.{RegionChange}
 use Rattle.regions.specs.declared.RegionChange.the-variants as RegionChange
-use Rattle.regions.specs.Changes.{regionNameIs, pointIs, widthChange, linesChange, anchorChange, viewportChange, namedChange, changeOf, applied, isOver, foldIs, takenIs}
+use Rattle.regions.specs.Changes.{regionNameIs, pointIs, widthChange, linesChange, anchorChange, viewportChange, namedChange, changeOf, applied, isOver, stepIs, foldIs, takenIs}
 
 abbrev pub pointFrom : Percentage → Percentage → PointRead
 pointFrom Percentage.Bad y = PointRead.Bad
@@ -83,6 +83,9 @@ change-agrees t r =
     by-test (isEmpty (nameOf t) || isEmpty (valueOf t .bytes))
     (λ y. rw y (unchanged r))
     (λ n. rw n (named-agrees (nameOf t) (valueOf t) r))
+
+pub step-is : (t : Part) (r : RegionValues) → stepIs t (takenIs (takenRegion r)) ≡ takenIs (regionSetting t r)
+step-is t r = let a = change-agrees t r in rw (a .same, a .over)
 
 -- token after token
 pub fold-is : (d : TakenRegion) (ts : List Part) → foldIs (takenIs d) ts ≡ takenIs (regionFrom d ts)

@@ -12,9 +12,9 @@ ghost use mathlib.Core.Path.{_≡_};
 ghost use Prim.Native.Nat.{_≤_};
 ghost use lib.ListN.{length, drop};
 ghost use Rattle.format.specs.Numbers.{percentage, lineCount};
-ghost use Rattle.format.specs.RegionSettings.{point, regionSettings};
+ghost use Rattle.format.specs.RegionSettings.{RegionValues, regionIs, regionSetting, point, regionSettings};
 ghost use Rattle.values.specs.Numbers.{percentageIs, lineCountIs};
-ghost use Rattle.values.specs.Tokens.{tokenFrom};
+ghost use Rattle.values.specs.Tokens.{tokenFrom, partOf};
 ghost use Rattle.regions.specs.Changes.{regionNameIs, pointIs, widthChange, linesChange, anchorChange, viewportChange, scrollChange, namedChange, changeOf, applied, isOver, stepIs, takenIs};
 
 pub enum RegionName {
@@ -230,4 +230,29 @@ pub fn read_region(s: &[u8], from: usize) -> RegionTaken
         taken = step(&s[..to], at, taken);
         i = to;
     }
+}
+
+// The region after one more token, the text from `from` up to `to`.
+pub fn one_setting(text: &[u8], from: usize, to: usize, region: Region) -> RegionTaken
+    ensures { λ r. ⌜ ((v : RegionValues) → region ≡ regionIs v → r ≡ takenIs (regionSetting (partOf (now (text .entry)) from to) v)) ⌝ }
+{
+    let end = values::least(to, text.len());
+    let start = values::least(from, end);
+    step(
+        &text[..end],
+        start,
+        RegionTaken {
+            region,
+            over: false,
+        },
+    )
+}
+
+// The region that the text from `from` up to `to` gives.
+pub fn all_settings(text: &[u8], from: usize, to: usize) -> RegionTaken
+    ensures { λ r. ⌜ r ≡ takenIs (regionSettings (partOf (now (text .entry)) from to)) ⌝ }
+{
+    let end = values::least(to, text.len());
+    let start = values::least(from, end);
+    read_region(&text[..end], start)
 }

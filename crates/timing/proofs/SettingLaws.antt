@@ -19,7 +19,7 @@ use Rattle.laws.proofs.Tests.{by-test}
 use Rattle.timing.specs.declared.cue_settings.Change.{Change}
 use Rattle.timing.specs.declared.cue_settings.Change.the-variants as Change
 use Rattle.values.specs.Numbers.{percentageIs, lineNumberIs}
-use Rattle.timing.specs.CueSettings.{cueNameIs, positionAlignedIs, linePercentageChange, lineNumberChange, lineChange, positionWith, sizeChange, namedChange, changeOf, applied, isOver, foldIs, takenIs}
+use Rattle.timing.specs.CueSettings.{cueNameIs, positionAlignedIs, linePercentageChange, lineNumberChange, lineChange, positionWith, sizeChange, namedChange, changeOf, applied, isOver, stepIs, foldIs, takenIs}
 
 -- the code's change is the definition's setting
 pub record Agrees (h : Change) (c : CueSettings) (t : Taken) : Type 0 where
@@ -117,6 +117,9 @@ change-agrees t c =
     by-test (isEmpty (nameOf t) || isEmpty (valueOf t .bytes))
     (λ y. rw y (unchanged c))
     (λ n. rw n (named-agrees (nameOf t) (valueOf t) c))
+
+pub step-is : (t : Part) (c : CueSettings) → stepIs t (takenIs (taken c)) ≡ takenIs (cueSetting t c)
+step-is t c = let a = change-agrees t c in rw (a .same, a .over)
 
 -- token after token
 pub fold-is : (d : Taken) (ts : List Part) → foldIs (takenIs d) ts ≡ takenIs (settingsFrom d ts)

@@ -343,7 +343,7 @@ pub fn read_settings(s: &[u8], from: usize) -> CueTaken
 }
 
 // The token from `from` up to the end of `s`, taken into account.
-fn step(s: &[u8], from: usize, taken: CueTaken) -> CueTaken
+pub fn step(s: &[u8], from: usize, taken: CueTaken) -> CueTaken
     requires { ⌜ from ≤ length (now s) ⌝ }
     ensures { λ r. ⌜ r ≡ stepIs (record { place = from; bytes = drop from (now (s .entry)) }) taken ⌝ }
 {

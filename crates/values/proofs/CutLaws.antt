@@ -1,5 +1,5 @@
 -- Parts of a slice as the code cuts them: up to the first of a byte, behind it, and a token at its first colon.
-use Prim.Native.Nat.{ℕ, suc, _+_, _-_, _≤_, _<_}
+use Prim.Native.Nat.{ℕ, suc, _+_, _-_, _≤_, _<_, min}
 use mathlib.Core.Path.{_≡_, refl, sym, ap, _∙_}
 use mathlib.Core.Bool.{true, false, not, _||_}
 use mathlib.Core.List.{List, []}
@@ -14,9 +14,9 @@ use Rattle.format.specs.Texts.{has, isEmpty, beforeFirst, behindFirst, run}
 use Rattle.format.specs.Tokens.{nameOf, valueOf}
 use Rattle.format.specs.CueSettings.{spanIs}
 use Rattle.laws.proofs.Tests.{by-test, or-true}
-use Rattle.laws.proofs.Runs.{run-take, run-length}
+use Rattle.laws.proofs.Runs.{run-take, run-length, drop-take}
 use Rattle.laws.proofs.Tokens.{first-at, behind-at}
-use Rattle.values.specs.Tokens.{tokenFrom, Named, spanTo}
+use Rattle.values.specs.Tokens.{tokenFrom, Named, spanTo, partOf}
 use Rattle.values.proofs.NumberLaws.{is-empty-not, empty-is}
 
 -- the first c stands at k, or nowhere where k is the length
@@ -100,3 +100,19 @@ module _ (s : List ℕ) (from k : ℕ) (e : k ≡ length (beforeFirst colon (dro
         name = rw d (sym (front colon (drop from s) k e));
         value = rw (v, p);
       }
+
+-- a part of a text from any place to any other, as the code cuts it
+pub record Cut (s : List ℕ) (from to end start : ℕ) : Type 0 where
+  pub size : end ≡ length (take end s)
+  pub inside : start ≤ length (take end s)
+  pub part : tokenFrom (take end s) start ≡ partOf s from to
+
+pub cut-at : (s : List ℕ) (from to end start : ℕ) → end ≡ min to (length s) → start ≡ min from end → Cut s from to end start
+cut-at s from to end start e b =
+    let n = length-take-le end s (omega arith) in
+    let p : start ≡ min from (min to (length s)) = rw e at b in
+    record {
+      size = sym n;
+      inside = omega (arith, n);
+      part = rw (drop-take start end s, e, p);
+    }

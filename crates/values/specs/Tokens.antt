@@ -1,5 +1,5 @@
 -- The next token of a text, as the code finds it.
-use Prim.Native.Nat.{ℕ, _+_, _-_, _≤_, _<_}
+use Prim.Native.Nat.{ℕ, _+_, _-_, _≤_, _<_, min}
 use mathlib.Core.Path.{_≡_}
 use mathlib.Core.Bool.{true, false, cond, _||_}
 use mathlib.Core.List.{List, [], _∷_}
@@ -44,3 +44,11 @@ NameAt s from (NameEnd.At c) = Named s from c
 -- bytes from one place to another
 abbrev pub spanTo : ℕ → ℕ → Span
 spanTo from to = cond (eqb from to) noSpan (record { from = from; to = to })
+
+-- the part of a text from one place up to another, cut to what the text has
+abbrev pub partOf : List ℕ → ℕ → ℕ → Part
+partOf s from to =
+    record {
+      place = min from (min to (length s));
+      bytes = take (min to (length s) - min from (min to (length s))) (drop (min from (min to (length s))) s);
+    }

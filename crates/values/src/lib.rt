@@ -3,3 +3,25 @@ pub mod bytes;
 pub mod numbers;
 pub mod times;
 pub mod tokens;
+
+ghost use mathlib.Core.Path.{_≡_};
+ghost use Prim.Native.Nat.{_≤_, min};
+ghost use lib.ListN.{length};
+ghost use Rattle.format.specs.Times.{timestamp};
+ghost use Rattle.values.specs.Times.{stampIs};
+
+// The timestamp that a text begins with.
+pub fn read_time(text: &[u8]) -> times::Stamp
+    ensures { λ r. ⌜ r ≡ stampIs (length (now (text .entry))) (timestamp (now (text .entry))) ⌝ }
+{
+    times::read_timestamp(text, 0)
+}
+
+pub fn least(a: usize, b: usize) -> usize
+    ensures { λ r. ⌜ r ≡ min a b ⌝ }
+{
+    if a < b {
+        return a;
+    }
+    b
+}

@@ -1,0 +1,37 @@
+-- `regions::one_setting` meets its contract.
+use mathlib.Core.Path.{_∙_}
+use Rattle.values.proofs.CutLaws.{Cut, cut-at}
+use Rattle.values.specs.Tokens.{partOf}
+use Rattle.regions.proofs.ChangeLaws.{step-is}
+use borrow.Author.Needs.{needs}
+use Rattle.regions.proofs.one_setting.Statement.{statement}
+use Rattle.regions.proofs.one_setting.Tie as tie
+
+least-requires : tie.Need-least-requires
+least-requires c κs = search needs
+
+least-requires-2 : tie.Need-least-requires-2
+least-requires-2 c κs = search needs
+
+-- the part that was cut
+cut :
+    (c : tie.After-least2)
+    → let args = c .before .before .before .args in Cut (args .text .now) (args .from) (args .to) (c .before .least .result) (c .least2 .result)
+cut c =
+    let args = c .before .before .before .args in
+    cut-at (args .text .now) (args .from) (args .to) (c .before .least .result) (c .least2 .result) (c .before .least .ensures) (c .least2 .ensures)
+
+slice-aggregate-step : tie.Need-slice-aggregate-step
+slice-aggregate-step c = cut (c .before) .size
+
+step-requires : tie.Need-step-requires
+step-requires c κs = cut (c .before) .inside
+
+returns : tie.Need-returns
+returns c d e =
+    let part = cut (c .before .before) .part in
+    c .step .ensures ∙ rw (part, e) (step-is (partOf (c .before .before .before .before .before .args .text .now) (c .before .before .before .before .before .args .from) (c .before .before .before .before .before .args .to)) d)
+
+pub one-setting-spec : {M : Type 1} → statement M
+one-setting-spec =
+    tie.close (tie.spec least-requires least-requires-2 slice-aggregate-step step-requires returns)
