@@ -9,6 +9,7 @@ use values::numbers::Percentage;
 use values::tokens::NameEnd;
 use values::tokens::Token;
 ghost use mathlib.Core.Path.{_≡_};
+ghost use mathlib.Core.Bool.{false};
 ghost use Prim.Native.Nat.{_≤_};
 ghost use lib.ListN.{length, drop};
 ghost use Rattle.format.specs.Numbers.{percentage, lineCount};
@@ -234,7 +235,7 @@ pub fn read_region(s: &[u8], from: usize) -> RegionTaken
 
 // The region after one more token, the text from `from` up to `to`.
 pub fn one_setting(text: &[u8], from: usize, to: usize, region: Region) -> RegionTaken
-    ensures { λ r. ⌜ ((v : RegionValues) → region ≡ regionIs v → r ≡ takenIs (regionSetting (partOf (now (text .entry)) from to) v)) ⌝ }
+    ensures { λ r. ⌜ (r ≡ stepIs (partOf (now (text .entry)) from to) (record { region = region; over = false })) × ((v : RegionValues) → region ≡ regionIs v → r ≡ takenIs (regionSetting (partOf (now (text .entry)) from to) v)) ⌝ }
 {
     let end = values::least(to, text.len());
     let start = values::least(from, end);

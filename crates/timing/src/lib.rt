@@ -3,10 +3,11 @@ use cue_settings::CueTaken;
 use format::settings::Settings;
 use timing_line::TimingLine;
 ghost use mathlib.Core.Path.{_≡_};
+ghost use mathlib.Core.Bool.{false};
 ghost use Rattle.format.specs.CueSettings.{CueSettings, settingsIs, cueSetting, cueSettings};
 ghost use Rattle.format.specs.TimingLines.{timingLine};
 ghost use Rattle.values.specs.Tokens.{partOf};
-ghost use Rattle.timing.specs.CueSettings.{takenIs};
+ghost use Rattle.timing.specs.CueSettings.{stepIs, takenIs};
 ghost use Rattle.timing.specs.TimingLines.{timingLineIs};
 
 pub mod cue_settings;
@@ -14,7 +15,7 @@ pub mod timing_line;
 
 // The settings after one more token, the text from `from` up to `to`.
 pub fn one_setting(text: &[u8], from: usize, to: usize, settings: Settings) -> CueTaken
-    ensures { λ r. ⌜ ((c : CueSettings) → settings ≡ settingsIs c → r ≡ takenIs (cueSetting (partOf (now (text .entry)) from to) c)) ⌝ }
+    ensures { λ r. ⌜ (r ≡ stepIs (partOf (now (text .entry)) from to) (record { settings = settings; over = false })) × ((c : CueSettings) → settings ≡ settingsIs c → r ≡ takenIs (cueSetting (partOf (now (text .entry)) from to) c)) ⌝ }
 {
     let end = values::least(to, text.len());
     let start = values::least(from, end);

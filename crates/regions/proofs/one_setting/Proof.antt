@@ -1,5 +1,5 @@
 -- `regions::one_setting` meets its contract.
-use mathlib.Core.Path.{_∙_}
+use mathlib.Core.Path.{_∙_, refl}
 use Rattle.values.proofs.CutLaws.{Cut, cut-at}
 use Rattle.values.specs.Tokens.{partOf}
 use Rattle.regions.proofs.ChangeLaws.{step-is}
@@ -28,9 +28,11 @@ step-requires : tie.Need-step-requires
 step-requires c κs = cut (c .before) .inside
 
 returns : tie.Need-returns
-returns c d e =
+returns c =
+    let args = c .before .before .before .before .before .args in
     let part = cut (c .before .before) .part in
-    c .step .ensures ∙ rw (part, e) (step-is (partOf (c .before .before .before .before .before .args .text .now) (c .before .before .before .before .before .args .from) (c .before .before .before .before .before .args .to)) d)
+    let one = partOf (args .text .now) (args .from) (args .to) in
+    (c .step .ensures ∙ rw part refl, λ d e. c .step .ensures ∙ rw (part, e) (step-is one d))
 
 pub one-setting-spec : {M : Type 1} → statement M
 one-setting-spec =
