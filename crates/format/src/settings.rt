@@ -158,13 +158,14 @@ impl Settings {
         let vertical = self.vertical;
         let position = self.position;
         let align = self.align;
+        let region = Span::NONE;
         Settings {
             vertical,
             line,
             position,
             size: self.size,
             align,
-            region: Span::NONE,
+            region,
         }
     }
 

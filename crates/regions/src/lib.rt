@@ -239,14 +239,8 @@ pub fn one_setting(text: &[u8], from: usize, to: usize, region: Region) -> Regio
 {
     let end = values::least(to, text.len());
     let start = values::least(from, end);
-    step(
-        &text[..end],
-        start,
-        RegionTaken {
-            region,
-            over: false,
-        },
-    )
+    let over = false;
+    step(&text[..end], start, RegionTaken { region, over })
 }
 
 // The region that the text from `from` up to `to` gives.
