@@ -10,6 +10,8 @@ pub mod Tokens
 pub mod CueSettings
 pub mod RegionSettings
 pub mod TimingLines
+pub mod Blocks
+pub mod Lists
 pub mod Examples
 pub mod Answers
 pub mod Converting

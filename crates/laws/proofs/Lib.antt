@@ -7,6 +7,8 @@ pub mod Plainness
 pub mod Seams
 pub mod PlainText
 pub mod Lines
+pub mod Blocks
+pub mod Lists
 pub mod Filling
 pub mod Runs
 pub mod Numbers

@@ -1,0 +1,47 @@
+-- What the blocks of a file give: it divides where the blocks do, and no style and no region comes after a cue.
+use mathlib.Core.Path.{_≡_, refl, ap}
+use mathlib.Core.Bool.{Bool, true, false, cond, _||_}
+use mathlib.Core.List.{List, [], _∷_, _++_}
+use mathlib.Core.Option.{Option, none, some}
+use Rattle.format.specs.Texts.{Part, nowhere}
+use Rattle.format.specs.TimingLines.{Timing, timingLine}
+use Rattle.format.specs.Blocks.{holdsArrow}
+use Rattle.format.specs.Lists.{Item, nothing, cue, style, region, cueOf, definition, meaning, isCue, succeeded, itemsFrom}
+
+pub items-append :
+    (seen : Bool) (bs cs : List (List Part)) → itemsFrom seen (bs ++ cs) ≡ itemsFrom seen bs ++ itemsFrom (succeeded seen bs) cs
+unfolding itemsFrom succeeded
+items-append seen [] cs = refl
+items-append seen (b ∷ bs) cs = ap (λ r. meaning seen b ∷ r) (items-append (seen || isCue (meaning seen b)) bs cs)
+
+-- a style or a region
+unfoldable pub isDefinition : Item → Bool
+isDefinition nothing = false
+isDefinition (cue c over) = false
+isDefinition (style text) = true
+isDefinition (region r over) = true
+
+cue-defines-none : (id : Part) (ls : List Part) (t : Option Timing) → isDefinition (cueOf id ls t) ≡ false
+unfolding isDefinition cueOf
+cue-defines-none id ls none = refl
+cue-defines-none id ls (some t) = refl
+
+either-none : (t : Bool) (a b : Item) → isDefinition a ≡ false → isDefinition b ≡ false → isDefinition (cond t a b) ≡ false
+either-none true a b p q = p
+either-none false a b p q = q
+
+-- once a cue has succeeded, no block is a style or a region
+pub no-definition-behind : (b : List Part) → isDefinition (meaning true b) ≡ false
+unfolding meaning definition isDefinition
+no-definition-behind [] = refl
+no-definition-behind (first ∷ []) =
+    either-none (holdsArrow (first .bytes)) (cueOf nowhere [] (timingLine first)) nothing (cue-defines-none nowhere [] (timingLine first)) refl
+no-definition-behind (first ∷ (second ∷ ls)) =
+    let timed = cueOf first ls (timingLine second) in
+    let rest = cond (holdsArrow (second .bytes)) timed nothing in
+    either-none
+    (holdsArrow (first .bytes))
+    (cueOf nowhere (second ∷ ls) (timingLine first))
+    rest
+    (cue-defines-none nowhere (second ∷ ls) (timingLine first))
+    (either-none (holdsArrow (second .bytes)) timed nothing (cue-defines-none first ls (timingLine second)) refl)
