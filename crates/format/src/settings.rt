@@ -112,8 +112,8 @@ impl Settings {
         }
     }
 
-    pub fn with_region(self, region: Span) -> Settings
-        ensures { λ r. ⌜ r ≡ record { vertical = self .vertical; line = self .line; position = self .position; size = self .size; align = self .align; region = region } ⌝ }
+    pub fn with_region(self, name: Span) -> Settings
+        ensures { λ r. ⌜ r ≡ record { vertical = self .vertical; line = self .line; position = self .position; size = self .size; align = self .align; region = name } ⌝ }
     {
         let vertical = self.vertical;
         let line = self.line;
@@ -125,7 +125,7 @@ impl Settings {
             position,
             size: self.size,
             align,
-            region,
+            region: name,
         }
     }
 
