@@ -214,7 +214,7 @@ fn step(s: &[u8], from: usize, taken: RegionTaken) -> RegionTaken
 }
 
 // The region whose settings stand from `from` on.
-pub fn read_region(s: &[u8], from: usize) -> RegionTaken
+fn read_region(s: &[u8], from: usize) -> RegionTaken
     requires { ⌜ from ≤ length (now s) ⌝ }
     ensures { λ r. ⌜ r ≡ takenIs (regionSettings (tokenFrom (now (s .entry)) from)) ⌝ }
 {
