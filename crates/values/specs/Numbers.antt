@@ -27,10 +27,6 @@ decimalIs (some d) =
     Decimal.Good (min (Format.number (d .whole)) cap) (Format.number (take 6 (d .fraction ++ ascii "000000")))
     (not (all (λ b. eqb b 0x30) (d .fraction)))
 
-abbrev pub fractionOf : Decimal → ℕ
-fractionOf Decimal.Bad = 0
-fractionOf (Decimal.Good w f m) = f
-
 abbrev pub percentageIs : Option ℕ → Percentage
 percentageIs none = Percentage.Bad
 percentageIs (some n) = Percentage.Good n

@@ -8,7 +8,7 @@ ghost use lib.ListN.{getD, take};
 ghost use mathlib.Core.List.{_++_};
 ghost use Rattle.format.specs.Bytes.{ascii};
 ghost use Rattle.format.specs.Numbers.{number, decimal, percentage, lineNumber, lineCount};
-ghost use Rattle.values.specs.Numbers.{cap, decimalIs, fractionOf, percentageIs, shareOf, lineOf, lineNumberIs, lineCountIs};
+ghost use Rattle.values.specs.Numbers.{cap, decimalIs, percentageIs, shareOf, lineOf, lineNumberIs, lineCountIs};
 
 // Above every limit: a number that is greater is held at this.
 const CAP: u64 = 1_000_000;
@@ -44,12 +44,12 @@ pub fn number_of(ds: &[u8]) -> u64
 }
 
 // The first six digits behind a full stop as millionths.
-fn six_digits(ds: &[u8]) -> u64
-    ensures { λ r. ⌜ (r ≡ number (take 6 (now (ds .entry) ++ ascii "000000"))) × (r ≤ 22_999_977) ⌝ }
+fn six_digits(ds: &[u8]) -> u32
+    ensures { λ r. ⌜ r ≡ number (take 6 (now (ds .entry) ++ ascii "000000")) ⌝ }
 {
     let a = digit_at(ds, 0) * 100_000 + digit_at(ds, 1) * 10_000;
     let b = digit_at(ds, 2) * 1_000 + digit_at(ds, 3) * 100;
-    a + b + digit_at(ds, 4) * 10 + digit_at(ds, 5)
+    (a + b + digit_at(ds, 4) * 10 + digit_at(ds, 5)) as u32
 }
 
 pub enum Decimal {
@@ -57,13 +57,13 @@ pub enum Decimal {
     // The digits before the full stop, held at CAP; the millionths behind it; is any digit behind it not 0.
     Good {
         whole: u64,
-        fraction: u64,
+        fraction: u32,
         more: bool,
     },
 }
 
 pub fn read_decimal(s: &[u8]) -> Decimal
-    ensures { λ r. ⌜ (r ≡ decimalIs (decimal (now (s .entry)))) × (fractionOf r ≤ 22_999_977) ⌝ }
+    ensures { λ r. ⌜ r ≡ decimalIs (decimal (now (s .entry))) ⌝ }
 {
     let end = super::bytes::past(s, 0, Kind::Digits);
     if end == 0 {
@@ -103,7 +103,6 @@ pub enum Percentage {
 
 // A decimal up to 100, in millionths.
 fn share_of(size: Decimal) -> Percentage
-    requires { ⌜ fractionOf size ≤ 22_999_977 ⌝ }
     ensures { λ r. ⌜ r ≡ shareOf size ⌝ }
 {
     match size {
@@ -116,7 +115,7 @@ fn share_of(size: Decimal) -> Percentage
             if exceeds(whole, more, 100) {
                 return Percentage::Bad;
             }
-            Percentage::Good(whole * 1_000_000 + fraction)
+            Percentage::Good(whole * 1_000_000 + fraction as u64)
         }
     }
 }
@@ -153,7 +152,6 @@ pub enum LineNumber {
 
 // A decimal as a line number, with a minus before it or not.
 fn line_of(minus: bool, size: Decimal) -> LineNumber
-    requires { ⌜ fractionOf size ≤ 22_999_977 ⌝ }
     ensures { λ r. ⌜ r ≡ lineOf minus size ⌝ }
 {
     match size {
@@ -166,7 +164,7 @@ fn line_of(minus: bool, size: Decimal) -> LineNumber
             if exceeds(whole, more, 999_999) {
                 return LineNumber::Over;
             }
-            let millionths = whole * 1_000_000 + fraction;
+            let millionths = whole * 1_000_000 + fraction as u64;
             LineNumber::Good {
                 negative: minus && 0 < millionths,
                 millionths,

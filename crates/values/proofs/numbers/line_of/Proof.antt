@@ -1,8 +1,7 @@
 -- `values::numbers::line_of` meets its contract.
 use Prim.Native.Nat.{_≤_}
-use mathlib.Core.Path.{sym, ap, _∙_}
+use mathlib.Core.Path.{sym, _∙_}
 use native.Mathlib.Omega.{arith}
-use Rattle.values.specs.Numbers.{fractionOf}
 use Rattle.values.proofs.NumberLaws.{not-above}
 use borrow.Author.Needs.{needs}
 use Rattle.values.proofs.numbers.line_of.Statement.{statement}
@@ -31,8 +30,11 @@ small c =
 mul-millionths : tie.Need-mul-millionths
 mul-millionths c = omega (arith, small c)
 
+cast-millionths : tie.Need-cast-millionths
+cast-millionths c = search needs
+
 add-millionths : tie.Need-add-millionths
-add-millionths c = omega (arith, small c, ap fractionOf (c .before .before .before .size .given .1))
+add-millionths c = omega (arith, small c)
 
 returns-2 : tie.Need-returns-2
 returns-2 c = search needs
@@ -56,6 +58,7 @@ line-of-spec =
     exceeds-requires
     returns
     mul-millionths
+    cast-millionths
     add-millionths
     returns-2
     returns-3

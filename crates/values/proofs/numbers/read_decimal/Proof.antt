@@ -27,7 +27,7 @@ ran c = run-start digit (c .before .before .args .s .now) (c .past .result) (c .
 returns : tie.Need-returns
 returns c =
     let found = c .before in
-    (sym (ap decimalIs (decimal-none (found .before .before .args .s .now) (found .past .result) (ran found) (c .if1 .taken))), omega arith)
+    sym (ap decimalIs (decimal-none (found .before .before .args .s .now) (found .past .result) (ran found) (c .if1 .taken)))
 
 slice-aggregate-number-of : tie.Need-slice-aggregate-number-of
 slice-aggregate-number-of c =
@@ -42,10 +42,8 @@ unfolding numberFrom all
 returns-2 c =
     let first = c .before .before .before in
     let found = first .before in
-    let s = found .before .before .args .s .now in (
-      rw (c .before .number-of .ensures, decimal-whole s (found .past .result) (ran found) (omega arith) (c .if2 .taken)) refl,
-      omega arith,
-    )
+    let s = found .before .before .args .s .now in
+    rw (c .before .number-of .ensures, decimal-whole s (found .past .result) (ran found) (omega arith) (c .if2 .taken)) refl
 
 -- there are digits
 first-digit : (c : tie.Else1) → 0 < c .before .past .result
@@ -62,10 +60,8 @@ returns-3 : tie.Need-returns-3
 returns-3 c =
     let first = c .before .before .before .before .before in
     let found = first .before in
-    let s = found .before .before .args .s .now in (
-      sym (ap decimalIs (decimal-no-stop s (found .past .result) (ran found) (omega arith) (behind (c .before .before)) (c .if3 .taken))),
-      omega arith,
-    )
+    let s = found .before .before .args .s .now in
+    sym (ap decimalIs (decimal-no-stop s (found .past .result) (ran found) (omega arith) (behind (c .before .before)) (c .if3 .taken)))
 
 add-from : tie.Need-add-from
 add-from c = omega (arith, ran (c .before .before .before .before .before .before) .inside)
@@ -73,10 +69,8 @@ add-from c = omega (arith, ran (c .before .before .before .before .before .befor
 returns-4 : tie.Need-returns-4
 returns-4 c =
     let found = c .before .before .before .before .before .before .before in
-    let s = found .before .before .args .s .now in (
-      sym (ap decimalIs (decimal-no-fraction s (found .past .result) (ran found) (omega arith) (behind (c .before .before .before)) (c .if4 .taken))),
-      omega arith,
-    )
+    let s = found .before .before .args .s .now in
+    sym (ap decimalIs (decimal-no-fraction s (found .past .result) (ran found) (omega arith) (behind (c .before .before .before)) (c .if4 .taken)))
 
 past-requires-2 : tie.Need-past-requires-2
 past-requires-2 c κs = omega (arith, ran (c .before .before .before .before .before .before .before) .inside)
@@ -93,10 +87,8 @@ returns-5 c =
     let end = found .past .result in
     let l = behind (out .before .before .before .before) in
     let k = fraction (out .before) in
-    let stops = run-not-all digit (drop (end + 1) s) (omega (arith, out .past2 .ensures, c .if5 .taken, length-drop (end + 1) s)) in (
-      sym (ap decimalIs (decimal-bad-fraction s end (ran found) (omega arith) l (out .before .before .if3 .left) k stops)),
-      omega arith,
-    )
+    let stops = run-not-all digit (drop (end + 1) s) (omega (arith, out .past2 .ensures, c .if5 .taken, length-drop (end + 1) s)) in
+    sym (ap decimalIs (decimal-bad-fraction s end (ran found) (omega arith) l (out .before .before .if3 .left) k stops))
 
 sub-rest : tie.Need-sub-rest
 sub-rest c = omega (arith, ran (c .before .before .before .before .before .before .before .before .before) .inside)
@@ -128,13 +120,13 @@ returns-6 c =
     let any : 0 < end = first-digit (out .before .before .before .before .before .before .before) in
     let good = decimal-fraction s end (ran found) any l (out .before .before .if3 .left) k digits in
     let held = out .before .before .before .before .before .number-of .ensures in
-    let six = c .before .six-digits .ensures .0 ∙ ap (λ x. number (take 6 (x ++ ascii "000000"))) part in
+    let six = c .before .six-digits .ensures ∙ ap (λ x. number (take 6 (x ++ ascii "000000"))) part in
     let zero : c .past3 .result ≡ length (run (λ b. eqb b 0x30) (take (length s - (end + 1)) rest)) = omega (arith, c .past3 .ensures) in
     let more =
     ap (λ n. ltb n (length (take (length s - (end + 1)) rest))) zero
     ∙ all-stops (λ b. eqb b 0x30) (take (length s - (end + 1)) rest)
     ∙ ap (λ x. not (all (λ b. eqb b 0x30) x)) part in
-    (rw (held, six, more, good), c .before .six-digits .ensures .1)
+    rw (held, six, more, good)
 
 pub read-decimal-spec : {M : Type 1} → statement M
 read-decimal-spec =

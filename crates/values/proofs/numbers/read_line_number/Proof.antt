@@ -40,7 +40,7 @@ returns-2 c =
     let s = args .s .now in
     let part : take (length s - 1) (drop 1 s) ≡ drop 1 s = take-all (length s - 1) (drop 1 s) (omega (arith, length-drop 1 s)) in
     c .line-of .ensures
-    ∙ ap (lineOf true) (found .read-decimal .ensures .0 ∙ ap (λ x. decimalIs (decimal x)) part)
+    ∙ ap (lineOf true) (found .read-decimal .ensures ∙ ap (λ x. decimalIs (decimal x)) part)
     ∙ line-is true (decimal (drop 1 s))
     ∙ sym (ap lineNumberIs (line-minus s (omega arith) (found .before .before .if2 .taken)))
 
@@ -55,7 +55,7 @@ returns-3 c =
     let found = c .before in
     let s = found .before .before .before .before .before .args .s .now in
     c .line-of2 .ensures
-    ∙ ap (lineOf false) (found .read-decimal2 .ensures .0)
+    ∙ ap (lineOf false) (found .read-decimal2 .ensures)
     ∙ line-is false (decimal s)
     ∙ sym (ap lineNumberIs (line-plain s (omega arith) (found .before .if2 .left)))
 

@@ -42,7 +42,7 @@ returns-3 c =
     let at = found .before .before in
     let s = at .before .before .before .before .args .s .now in
     c .share-of .ensures
-    ∙ ap shareOf (found .read-decimal .ensures .0)
+    ∙ ap shareOf (found .read-decimal .ensures)
     ∙ share-is (decimal (take (length s - 1) s))
     ∙ sym (ap percentageIs (percentage-is s (omega arith) (at .if2 .left)))
 

@@ -1,8 +1,7 @@
 -- `values::numbers::share_of` meets its contract.
 use Prim.Native.Nat.{_≤_}
-use mathlib.Core.Path.{sym, ap, _∙_}
+use mathlib.Core.Path.{sym, _∙_}
 use native.Mathlib.Omega.{arith}
-use Rattle.values.specs.Numbers.{fractionOf}
 use Rattle.values.proofs.NumberLaws.{not-above}
 use borrow.Author.Needs.{needs}
 use Rattle.values.proofs.numbers.share_of.Statement.{statement}
@@ -31,8 +30,11 @@ small c =
 mul-t7 : tie.Need-mul-t7
 mul-t7 c = omega (arith, small c)
 
-add-t8 : tie.Need-add-t8
-add-t8 c = omega (arith, small c, ap fractionOf (c .before .before .before .size .given .1))
+cast-t8 : tie.Need-cast-t8
+cast-t8 c = search needs
+
+add-t9 : tie.Need-add-t9
+add-t9 c = omega (arith, small c)
 
 returns-2 : tie.Need-returns-2
 returns-2 c = search needs
@@ -43,4 +45,4 @@ returns-3 c = rw (c .before .before .before .size .given .1, sym (c .before .exc
 pub share-of-spec : {M : Type 1} → statement M
 share-of-spec =
     tie.close
-    (tie.spec enum-told enum-known-size exceeds-requires returns mul-t7 add-t8 returns-2 returns-3)
+    (tie.spec enum-told enum-known-size exceeds-requires returns mul-t7 cast-t8 add-t9 returns-2 returns-3)

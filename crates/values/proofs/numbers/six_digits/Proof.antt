@@ -54,6 +54,9 @@ digit-at-requires-6 c κs = search needs
 add-result-3 : tie.Need-add-result-3
 add-result-3 c = search needs
 
+cast-result : tie.Need-cast-result
+cast-result c = search needs
+
 returns : tie.Need-returns
 unfolding numberFrom
 returns c =
@@ -80,4 +83,5 @@ six-digits-spec =
     add-result-2
     digit-at-requires-6
     add-result-3
+    cast-result
     returns)
