@@ -13,6 +13,7 @@ unfoldable pub ifAccepted {ℓ} : {A : Type ℓ} → Answer → A → A → A
 ifAccepted (accepted vs) a b = a
 ifAccepted (refused n vs) a b = b
 
--- lent room with a text at its start, its bytes beyond that text as they were
-unfoldable pub placed : List ℕ → List ℕ → List ℕ
+-- lent room with a text at its start, its bytes beyond that text as they were;
+-- or a lent table with rows at its start
+unfoldable pub placed {ℓ} : {A : Type ℓ} → List A → List A → List A
 placed text room = text ++ drop (length text) room

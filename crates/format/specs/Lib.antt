@@ -12,6 +12,9 @@ pub mod RegionSettings
 pub mod TimingLines
 pub mod Blocks
 pub mod Lists
+pub mod Rows
+pub mod Contents
 pub mod Examples
 pub mod Answers
 pub mod Converting
+pub mod Reading

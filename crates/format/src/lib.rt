@@ -2,10 +2,14 @@
 // The definitions themselves are in specs/; there is no algorithm here.
 
 pub mod regions;
+pub mod rows;
 pub mod settings;
 
 // The greatest length in bytes of a raw file, read or made (refusal 1).
 pub const MAX_FILE: usize = 16_777_216;
+
+// The greatest length in bytes of a plain text or a cue text to be read (refusal 1).
+pub const MAX_TEXT: usize = 50_331_648;
 
 // What converting a raw file to plain text answers.
 pub enum Converted {
@@ -22,4 +26,38 @@ pub enum Plainness {
     Plain,
     // Refusal 3: the first place that is not plain.
     NotPlainAt(usize),
+}
+
+// What reading a plain text into the lent tables answers.
+pub enum Reading {
+    // The lists stand at the tables' starts, with this many entries.
+    Lists {
+        cues: usize,
+        regions: usize,
+        styles: usize,
+    },
+    // Refusal 1: the text is over MAX_TEXT bytes.
+    TextTooLong,
+    // Refusal 3: the first place that is not plain.
+    TextNotPlainAt(usize),
+    // Refusal 4.
+    NoSignature,
+    // Refusal 5: a number is above its limit.
+    OverLimit,
+    // Refusal 6: a list has more entries than its table; all counts.
+    TablesTooShort {
+        cues: usize,
+        regions: usize,
+        styles: usize,
+    },
+}
+
+// What asking for a part of a cue answers.
+pub enum PartAnswer {
+    // The part is handed back.
+    Part,
+    // Refusal 7: the cue number is not below this count.
+    NoSuchCue(usize),
+    // Refusal 8: the cue with this number fails test 1.
+    NotWritable(usize),
 }

@@ -1,0 +1,42 @@
+-- Reading a plain text into the lent tables: document 01's numbers and values, and what the tables hold after it.
+use Prim.Native.Nat.{ℕ}
+use mathlib.Core.Bool.{cond, not, _||_}
+use mathlib.Core.List.{List, [], _∷_}
+use lib.Dec.{ltb}
+use lib.ListN.{length}
+use Rattle.format.specs.Limits.{maxText}
+use Rattle.format.specs.Plain.{firstNotPlain}
+use Rattle.format.specs.Blocks.{hasSignature}
+use Rattle.format.specs.Lists.{items, Lists, lists, anyOver}
+use Rattle.format.specs.Rows.{cueRows, regionRows, styleRows}
+use Rattle.format.specs.Answers.{Answer, accepted, refused, ifAccepted, placed}
+use Rattle.format.specs.declared.Reading.{Reading}
+use Rattle.format.specs.declared.Reading.the-variants as Reading
+
+-- the number and the values of each case; the counts are of cues, regions, styles
+unfoldable pub readingIs : Reading → Answer
+readingIs (Reading.Lists cues regions styles) = accepted (cues ∷ regions ∷ styles ∷ [])
+readingIs Reading.TextTooLong = refused 1 []
+readingIs (Reading.TextNotPlainAt i) = refused 3 (i ∷ [])
+readingIs Reading.NoSignature = refused 4 []
+readingIs Reading.OverLimit = refused 5 []
+readingIs (Reading.TablesTooShort cues regions styles) = refused 6 (cues ∷ regions ∷ styles ∷ [])
+
+unfoldable pub counts : Lists → List ℕ
+counts l = length (l .cues) ∷ length (l .regions) ∷ length (l .styles) ∷ []
+
+-- what reading answers, the tables having this many rows: the checks 1, 3, 4, 5, 6 in this order, else the counts
+unfoldable pub reading : List ℕ → ℕ → ℕ → ℕ → Answer
+reading s cues regions styles =
+    cond (ltb maxText (length s)) (refused 1 [])
+    (cond (ltb (firstNotPlain s) (length s)) (refused 3 (firstNotPlain s ∷ []))
+    (cond (not (hasSignature s)) (refused 4 [])
+    (cond (anyOver (items s)) (refused 5 [])
+    (cond
+    (ltb cues (length (lists s .cues)) || ltb regions (length (lists s .regions)) || ltb styles (length (lists s .styles)))
+    (refused 6 (counts (lists s)))
+    (accepted (counts (lists s)))))))
+
+-- each table after reading: the rows of its list, and beyond them what stood there; as it was where reading refuses
+unfoldable pub afterReading {ℓ} : {A : Type ℓ} → Answer → List A → List A → List A
+afterReading answer rows table = ifAccepted answer (placed rows table) table
