@@ -1,9 +1,11 @@
 -- The rows of the lent tables: what each word of a row means, in one place, and what a row of any words says. Percentages and line numbers
 -- are in millionths, times in milliseconds, parts are from a place up to another.
-use Prim.Native.Nat.{ℕ, zero, suc}
-use mathlib.Core.Bool.{Bool, true, false, cond}
-use mathlib.Core.List.{List, [], _∷_, _++_, map}
+use Prim.Native.Nat.{ℕ, suc, _-_}
+use mathlib.Core.Bool.{Bool, true, false, cond, _&&_}
+use mathlib.Core.List.{List, [], _∷_, map}
 use mathlib.Core.Option.{Option, none, some}
+use lib.Dec.{eqb, ltb}
+use lib.ListN.{getD}
 use Rattle.format.specs.Texts.{Part, isEmpty}
 use Rattle.format.specs.CueSettings.{spanIs}
 use Rattle.format.specs.RegionSettings.{RegionValues, regionIs, lastNamed}
@@ -27,6 +29,10 @@ use Rattle.format.specs.declared.regions.Region.{Region}
 use Rattle.format.specs.declared.rows.RegionIndex.{RegionIndex}
 use Rattle.format.specs.declared.rows.RegionIndex.the-variants as RegionIndex
 use Rattle.format.specs.declared.rows.CueEntry.{CueEntry}
+use Rattle.format.specs.declared.rows.CueDecoded.{CueDecoded}
+use Rattle.format.specs.declared.rows.CueDecoded.the-variants as CueDecoded
+use Rattle.format.specs.declared.rows.RegionDecoded.{RegionDecoded}
+use Rattle.format.specs.declared.rows.RegionDecoded.the-variants as RegionDecoded
 
 -- the coded choices, each as a word
 abbrev pub directionWord : Direction → ℕ
@@ -123,6 +129,84 @@ regionWords r =
 -- the row of a style text
 abbrev pub styleWords : Span → List ℕ
 styleWords t = t .from ∷ t .to ∷ []
+
+-- the word of a row at a place
+abbrev pub word : ℕ → List ℕ → ℕ
+word i row = getD row i 0
+
+-- "each coded choice is one of those named"
+unfoldable pub cueCodesNamed : List ℕ → Bool
+cueCodesNamed w =
+    ltb (word 6 w) 3
+    && (ltb (word 7 w) 3
+    && (ltb (word 9 w) 2
+    && (ltb (word 10 w) 3 && (ltb (word 11 w) 2 && (ltb (word 13 w) 4 && ltb (word 15 w) 5)))))
+
+unfoldable pub regionCodesNamed : List ℕ → Bool
+regionCodesNamed w = ltb (word 8 w) 2
+
+-- the choice that a word names; one that names none is not asked for
+abbrev pub directionOf : ℕ → Direction
+directionOf n = cond (eqb n 0) Direction.Horizontal (cond (eqb n 1) Direction.Rl Direction.Lr)
+
+abbrev pub lineOf : ℕ → ℕ → Line
+lineOf n number = cond (eqb n 0) Line.Auto (Line.At (eqb n 2) number)
+
+abbrev pub lineAlignOf : ℕ → LineAlign
+lineAlignOf n = cond (eqb n 0) LineAlign.Start (cond (eqb n 1) LineAlign.Center LineAlign.End)
+
+abbrev pub positionOf : ℕ → ℕ → Position
+positionOf n number = cond (eqb n 0) Position.Auto (Position.At number)
+
+abbrev pub positionAlignOf : ℕ → PositionAlign
+positionAlignOf n =
+    cond (eqb n 0) PositionAlign.Auto
+    (cond (eqb n 1) PositionAlign.LineLeft (cond (eqb n 2) PositionAlign.Center PositionAlign.LineRight))
+
+abbrev pub alignOf : ℕ → Align
+alignOf n =
+    cond (eqb n 0) Align.Start
+    (cond (eqb n 1) Align.Center (cond (eqb n 2) Align.End (cond (eqb n 3) Align.Left Align.Right)))
+
+abbrev pub regionIndexOf : ℕ → RegionIndex
+regionIndexOf n = cond (eqb n 0) RegionIndex.None (RegionIndex.At (n - 1))
+
+abbrev pub scrollOf : ℕ → Scroll
+scrollOf n = cond (eqb n 0) Scroll.None Scroll.Up
+
+-- what a cue's row says
+unfoldable pub cueOfRow : List ℕ → CueDecoded
+cueOfRow w =
+    cond (cueCodesNamed w)
+    (CueDecoded.Good
+    (record {
+      id = record { from = word 0 w; to = word 1 w };
+      start = word 2 w;
+      end = word 3 w;
+      text = record { from = word 4 w; to = word 5 w };
+      vertical = directionOf (word 6 w);
+      line = record { line = lineOf (word 7 w) (word 8 w); snap = eqb (word 9 w) 0; align = lineAlignOf (word 10 w) };
+      position = record { position = positionOf (word 11 w) (word 12 w); align = positionAlignOf (word 13 w) };
+      size = word 14 w;
+      align = alignOf (word 15 w);
+      region = regionIndexOf (word 16 w);
+    }))
+    CueDecoded.Bad
+
+-- what a region's row says
+unfoldable pub regionOfRow : List ℕ → RegionDecoded
+regionOfRow w =
+    cond (regionCodesNamed w)
+    (RegionDecoded.Good
+    (record {
+      id = record { from = word 0 w; to = word 1 w };
+      width = word 2 w;
+      lines = word 3 w;
+      anchor = record { x = word 4 w; y = word 5 w };
+      viewport = record { x = word 6 w; y = word 7 w };
+      scroll = scrollOf (word 8 w);
+    }))
+    RegionDecoded.Bad
 
 unfoldable pub ids : List RegionValues → List (List ℕ)
 ids [] = []

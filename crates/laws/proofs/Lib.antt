@@ -13,3 +13,5 @@ pub mod Filling
 pub mod Runs
 pub mod Numbers
 pub mod Tokens
+pub mod Standing
+pub mod Contents

@@ -1,0 +1,414 @@
+-- The contents of lists do not depend on places: setting every place to 0 commutes with reading.
+use Prim.Native.Nat.{ℕ, suc, _+_, _-_}
+use mathlib.Core.Path.{_≡_, refl, sym, ap, _∙_}
+use mathlib.Core.Bool.{Bool, true, false, cond, _||_, _&&_}
+use mathlib.Core.List.{List, [], _∷_, map}
+use mathlib.Core.Option.{Option, none, some}
+use lib.Dec.{eqb, ltb}
+use lib.ListN.{length}
+use Rattle.format.specs.Bytes.{ascii, white, percent, comma}
+use Rattle.format.specs.Limits.{maxLine}
+use Rattle.format.specs.Texts.{Part, nowhere, isEmpty, same, endsWith, beforeFirst}
+use Rattle.format.specs.Numbers.{percentage, LineNumber, lineNumber, overLine, lineCount}
+use Rattle.format.specs.Tokens.{inToken, onToken, beforeTokens, tokens, nameOf, valueOf}
+use Rattle.format.specs.CueSettings.{CueSettings, Taken, taken, openingSettings, setRegion, direction, setVertical, setLine, lineAlign}
+use Rattle.format.specs.CueSettings.{linePercentage, lineCounted, lineSetting, setPosition, positionAlign, positionOf, positionSetting}
+use Rattle.format.specs.CueSettings.{setSize, sizeOf, setAlign, alignment, named, cueSetting, settingsFrom, cueSettings, isHorizontal}
+use Rattle.format.specs.RegionSettings.{RegionValues, TakenRegion, takenRegion, openingRegion, setId, setWidth, setLines, point, setAnchor}
+use Rattle.format.specs.RegionSettings.{setViewport, setScroll, namedRegion, regionSetting, regionFrom, regionSettings}
+use Rattle.format.specs.Times.{Result, failed, got, milliseconds, overHours}
+use Rattle.format.specs.TimingLines.{Times, timings, withSettings, timingOf, timingLine}
+use Rattle.format.specs.Lines.{join}
+use Rattle.format.specs.Blocks.{holdsArrow, bytesOf, joined}
+use Rattle.format.specs.Lists.{Cue, Item, nothing, cue, style, region, cueOf, regionOf, isWord, definition, meaning, isCue, itemsFrom}
+use Rattle.format.specs.Lists.{Lists, into, listed, itemOver, anyOver}
+use Rattle.format.specs.Rows.{ids, regionFor}
+use Rattle.format.specs.Contents.{cueContents, regionContents, contents}
+use Rattle.format.specs.declared.settings.Direction.{Direction}
+use Rattle.format.specs.declared.settings.LineAlign.{LineAlign}
+use Rattle.format.specs.declared.settings.Align.{Align}
+use Rattle.format.specs.declared.settings.PositionAlign.{PositionAlign}
+
+-- values with every place 0
+abbrev pub bare : Part → Part
+bare l = record { place = 0; bytes = l .bytes }
+
+abbrev pub unplaced : List Part → List Part
+unplaced ls = map bare ls
+
+abbrev bareSettings : CueSettings → CueSettings
+bareSettings c = setRegion (bare (c .region)) c
+
+bareTaken : Taken → Taken
+bareTaken t = record { settings = bareSettings (t .settings); over = t .over }
+
+abbrev bareValues : RegionValues → RegionValues
+bareValues r = setId (bare (r .id)) r
+
+bareRegion : TakenRegion → TakenRegion
+bareRegion t = record { region = bareValues (t .region); over = t .over }
+
+-- two choices by the same test are alike where their parts are
+alike : {A B : Type 0} (f : A → B) (t : Bool) {a b c d : A} → f a ≡ f c → f b ≡ f d → f (cond t a b) ≡ f (cond t c d)
+alike f true p q = p
+alike f false p q = q
+
+-- a token's bytes do not depend on its place
+on-token-bytes : (p q b : ℕ) (ts us : List Part) → bytesOf ts ≡ bytesOf us → bytesOf (onToken p b ts) ≡ bytesOf (onToken q b us)
+unfolding onToken bytesOf
+on-token-bytes p q b [] [] e = refl
+on-token-bytes p q b [] (u ∷ us) e = cc
+on-token-bytes p q b (t ∷ ts) [] e = cc
+on-token-bytes p q b (t ∷ ts) (u ∷ us) e = cc
+
+token-bytes : (p q : ℕ) (x : List ℕ) → bytesOf (tokens p x) ≡ bytesOf (tokens q x)
+unfolding tokens beforeTokens bytesOf
+token-bytes p q [] = refl
+token-bytes p q (b ∷ x) =
+    let e = token-bytes (suc p) (suc q) x in
+    alike bytesOf (white b) e
+    (alike bytesOf (inToken x) (on-token-bytes p q b (tokens (suc p) x) (tokens (suc q) x) e) (ap (λ r. (b ∷ []) ∷ r) e))
+
+-- settings that differ in the region's place alone are alike
+alike-settings : (c d : CueSettings) → bareSettings c ≡ bareSettings d → bareTaken (taken c) ≡ bareTaken (taken d)
+unfolding bareTaken
+alike-settings c d e = ap taken e
+
+module _ (c : CueSettings) where
+  line-percentage : (n : Option ℕ) (a : Option LineAlign) → bareTaken (linePercentage n a c) ≡ bareTaken (linePercentage n a (bareSettings c))
+  unfolding bareTaken linePercentage setLine setRegion
+  line-percentage none a = refl
+  line-percentage (some n) none = refl
+  line-percentage (some n) (some a) = refl
+
+  line-counted : (n : Option LineNumber) (a : Option LineAlign) → bareTaken (lineCounted n a c) ≡ bareTaken (lineCounted n a (bareSettings c))
+  unfolding bareTaken lineCounted setLine setRegion
+  line-counted none a = refl
+  line-counted (some n) none = refl
+  line-counted (some n) (some a) = alike bareTaken (overLine n) refl refl
+
+  position-of : (n : Option ℕ) (a : Option PositionAlign) → bareSettings (positionOf n a c) ≡ bareSettings (positionOf n a (bareSettings c))
+  unfolding positionOf setPosition setRegion
+  position-of none a = refl
+  position-of (some n) none = refl
+  position-of (some n) (some a) = refl
+
+  size-of : (n : Option ℕ) → bareSettings (sizeOf n c) ≡ bareSettings (sizeOf n (bareSettings c))
+  unfolding sizeOf setSize setRegion
+  size-of none = refl
+  size-of (some n) = ap (λ p. setRegion p (setSize n c)) (alike bare (eqb n 100_000_000) refl refl)
+
+  set-vertical : (d : Direction) → bareSettings (setVertical d c) ≡ bareSettings (setVertical d (bareSettings c))
+  unfolding setVertical setRegion
+  set-vertical d = ap (λ p. setRegion p (setVertical d c)) (alike bare (isHorizontal d) refl refl)
+
+  set-align : (a : Align) → bareSettings (setAlign a c) ≡ bareSettings (setAlign a (bareSettings c))
+  unfolding setAlign setRegion
+  set-align a = refl
+
+  unset : bareTaken (taken c) ≡ bareTaken (taken (bareSettings c))
+  unfolding bareTaken setRegion
+  unset = refl
+
+  named-cue :
+      (name : List ℕ) (p q : ℕ) (x : List ℕ)
+      → bareTaken (named name (record { place = p; bytes = x }) c)
+      ≡ bareTaken (named name (record { place = q; bytes = x }) (bareSettings c))
+  unfolding named lineSetting positionSetting setRegion
+  named-cue name p q x =
+      let b = bareSettings c in
+      let n = beforeFirst comma x in
+      let a = lineAlign x (c .line .align) in
+      let d = direction x (c .vertical) in
+      let at = positionAlign x (c .position .align) in
+      let al = alignment x (c .align) in
+      alike bareTaken (same name (ascii "region"))
+      (alike-settings (setRegion (record { place = p; bytes = x }) c) (setRegion (record { place = q; bytes = x }) b) refl)
+      (alike bareTaken (same name (ascii "vertical")) (alike-settings (setVertical d c) (setVertical d b) (set-vertical d))
+      (alike bareTaken (same name (ascii "line"))
+      (alike bareTaken (endsWith percent n) (line-percentage (percentage n) a) (line-counted (lineNumber n) a))
+      (alike bareTaken (same name (ascii "position"))
+      (alike-settings (positionOf (percentage n) at c) (positionOf (percentage n) at b) (position-of (percentage n) at))
+      (alike bareTaken (same name (ascii "size"))
+      (alike-settings (sizeOf (percentage x) c) (sizeOf (percentage x) b) (size-of (percentage x)))
+      (alike bareTaken (same name (ascii "align")) (alike-settings (setAlign al c) (setAlign al b) (set-align al)) unset)))))
+
+  cue-setting : (t : Part) → bareTaken (cueSetting t c) ≡ bareTaken (cueSetting (bare t) (bareSettings c))
+  unfolding cueSetting nameOf valueOf
+  cue-setting t =
+      let x = valueOf t .bytes in
+      alike bareTaken (isEmpty (nameOf t) || isEmpty x) unset
+      (named-cue (nameOf t) (valueOf t .place) (valueOf (bare t) .place) x)
+
+-- the settings that tokens give, by their bytes
+cueBy : Taken → List (List ℕ) → Taken
+cueBy s [] = s
+cueBy s (x ∷ xs) =
+    let r = bareTaken (cueSetting (record { place = 0; bytes = x }) (s .settings)) in
+    cueBy (record { settings = r .settings; over = s .over || r .over }) xs
+
+cue-by : (s : Taken) (ts : List Part) → bareTaken (settingsFrom s ts) ≡ cueBy (bareTaken s) (bytesOf ts)
+unfolding bareTaken cueBy settingsFrom bytesOf
+cue-by s [] = refl
+cue-by s (t ∷ ts) =
+    let r = cueSetting t (s .settings) in
+    cue-by (record { settings = r .settings; over = s .over || r .over }) ts
+    ∙ ap (λ r. cueBy (record { settings = r .settings; over = s .over || r .over }) (bytesOf ts)) (cue-setting (s .settings) t)
+
+cue-settings :
+    (p q : ℕ) (x : List ℕ)
+    → bareTaken (cueSettings (record { place = p; bytes = x })) ≡ bareTaken (cueSettings (record { place = q; bytes = x }))
+unfolding cueSettings
+cue-settings p q x =
+    let opening = taken openingSettings in
+    cue-by opening (tokens p x) ∙ ap (cueBy (bareTaken opening)) (token-bytes p q x) ∙ sym (cue-by opening (tokens q x))
+
+-- the same for regions
+alike-values : (r q : RegionValues) → bareValues r ≡ bareValues q → bareRegion (takenRegion r) ≡ bareRegion (takenRegion q)
+unfolding bareRegion
+alike-values r q e = ap takenRegion e
+
+module _ (r : RegionValues) where
+  unset-region : bareRegion (takenRegion r) ≡ bareRegion (takenRegion (bareValues r))
+  unfolding bareRegion setId
+  unset-region = refl
+
+  -- a setting whose value may be no value
+  set-option :
+      {A : Type 0} (set : Option A → RegionValues → RegionValues) (o : Option A)
+      → bareValues (set none r) ≡ bareValues (set none (bareValues r))
+      → ((a : A) → bareValues (set (some a) r) ≡ bareValues (set (some a) (bareValues r)))
+      → bareRegion (takenRegion (set o r)) ≡ bareRegion (takenRegion (set o (bareValues r)))
+  set-option set none n s = alike-values (set none r) (set none (bareValues r)) n
+  set-option set (some a) n s = alike-values (set (some a) r) (set (some a) (bareValues r)) (s a)
+
+  set-lines : (n : Option ℕ) → bareRegion (setLines n r) ≡ bareRegion (setLines n (bareValues r))
+  unfolding bareRegion setLines setId
+  set-lines none = refl
+  set-lines (some n) = alike bareRegion (ltb maxLine n) refl refl
+
+  named-region :
+      (name : List ℕ) (p q : ℕ) (x : List ℕ)
+      → bareRegion (namedRegion name (record { place = p; bytes = x }) r)
+      ≡ bareRegion (namedRegion name (record { place = q; bytes = x }) (bareValues r))
+  unfolding namedRegion setId setWidth setAnchor setViewport setScroll
+  named-region name p q x =
+      let b = bareValues r in
+      alike bareRegion (same name (ascii "id"))
+      (alike-values (setId (record { place = p; bytes = x }) r) (setId (record { place = q; bytes = x }) b) refl)
+      (alike bareRegion (same name (ascii "width")) (set-option setWidth (percentage x) refl (λ n. refl))
+      (alike bareRegion (same name (ascii "lines")) (set-lines (lineCount x))
+      (alike bareRegion (same name (ascii "regionanchor")) (set-option setAnchor (point x) refl (λ a. refl))
+      (alike bareRegion (same name (ascii "viewportanchor")) (set-option setViewport (point x) refl (λ a. refl))
+      (alike bareRegion (same name (ascii "scroll") && same x (ascii "up"))
+      (alike-values (setScroll r) (setScroll b) refl)
+      unset-region)))))
+
+  region-setting : (t : Part) → bareRegion (regionSetting t r) ≡ bareRegion (regionSetting (bare t) (bareValues r))
+  unfolding regionSetting nameOf valueOf
+  region-setting t =
+      let x = valueOf t .bytes in
+      alike bareRegion (isEmpty (nameOf t) || isEmpty x) unset-region
+      (named-region (nameOf t) (valueOf t .place) (valueOf (bare t) .place) x)
+
+regionBy : TakenRegion → List (List ℕ) → TakenRegion
+regionBy s [] = s
+regionBy s (x ∷ xs) =
+    let r = bareRegion (regionSetting (record { place = 0; bytes = x }) (s .region)) in
+    regionBy (record { region = r .region; over = s .over || r .over }) xs
+
+region-by : (s : TakenRegion) (ts : List Part) → bareRegion (regionFrom s ts) ≡ regionBy (bareRegion s) (bytesOf ts)
+unfolding bareRegion regionBy regionFrom bytesOf
+region-by s [] = refl
+region-by s (t ∷ ts) =
+    let r = regionSetting t (s .region) in
+    region-by (record { region = r .region; over = s .over || r .over }) ts
+    ∙ ap (λ r. regionBy (record { region = r .region; over = s .over || r .over }) (bytesOf ts)) (region-setting (s .region) t)
+
+region-settings :
+    (p q : ℕ) (x : List ℕ)
+    → bareRegion (regionSettings (record { place = p; bytes = x })) ≡ bareRegion (regionSettings (record { place = q; bytes = x }))
+unfolding regionSettings
+region-settings p q x =
+    let opening = takenRegion openingRegion in
+    region-by opening (tokens p x) ∙ ap (regionBy (bareRegion opening)) (token-bytes p q x) ∙ sym (region-by opening (tokens q x))
+
+-- what a block gives, with every place 0
+abbrev bareCue : Cue → Cue
+bareCue c = record { id = bare (c .id); start = c .start; end = c .end; settings = bareSettings (c .settings); text = bare (c .text) }
+
+bareItem : Item → Item
+bareItem nothing = nothing
+bareItem (cue c over) = cue (bareCue c) over
+bareItem (style text) = style (bare text)
+bareItem (region r over) = region (bareValues r) over
+
+bytes-unplaced : (ls : List Part) → bytesOf (unplaced ls) ≡ bytesOf ls
+unfolding bytesOf
+bytes-unplaced [] = refl
+bytes-unplaced (l ∷ ls) = ap (λ r. l .bytes ∷ r) (bytes-unplaced ls)
+
+joined-unplaced : (ls : List Part) → joined (unplaced ls) .bytes ≡ joined ls .bytes
+unfolding joined bytesOf
+joined-unplaced [] = refl
+joined-unplaced (l ∷ ls) = ap (λ r. join (l .bytes ∷ r)) (bytes-unplaced ls)
+
+-- the cue of a timing line, by its bytes
+cueWith : List ℕ → Times → Taken → List ℕ → Item
+cueWith id t s text =
+    cue
+    (record {
+      id = record { place = 0; bytes = id };
+      start = milliseconds (t .start);
+      end = milliseconds (t .end);
+      settings = s .settings;
+      text = record { place = 0; bytes = text };
+    })
+    (overHours (t .start) || overHours (t .end) || s .over)
+
+cue-of :
+    (id line : Part) (ls : List Part) (r : Result Times)
+    → bareItem (cueOf (bare id) (unplaced ls) (timingOf (bare line) r)) ≡ bareItem (cueOf id ls (timingOf line r))
+unfolding bareItem cueOf timingOf withSettings bareTaken cueWith
+cue-of id line ls failed = refl
+cue-of id line ls (got t rest) =
+    let n = length (line .bytes) - length rest in
+    ap (cueWith (id .bytes) t (bareTaken (cueSettings (record { place = 0 + n; bytes = rest })))) (joined-unplaced ls)
+    ∙ ap (λ s. cueWith (id .bytes) t s (joined ls .bytes)) (cue-settings (0 + n) (line .place + n) rest)
+
+region-of : (p q : Part) → p .bytes ≡ q .bytes → bareItem (regionOf (regionSettings p)) ≡ bareItem (regionOf (regionSettings q))
+unfolding bareItem regionOf bareRegion
+region-of p q e =
+    ap (λ x. bareItem (regionOf (regionSettings (record { place = p .place; bytes = x })))) e
+    ∙ ap regionOf (region-settings (p .place) (q .place) (q .bytes))
+
+style-of : (p q : Part) → p .bytes ≡ q .bytes → bareItem (style p) ≡ bareItem (style q)
+unfolding bareItem
+style-of p q e = ap (λ x. style (record { place = 0; bytes = x })) e
+
+meaning-bare : (seen : Bool) (b : List Part) → bareItem (meaning seen (unplaced b)) ≡ bareItem (meaning seen b)
+unfolding meaning timingLine definition
+meaning-bare seen [] = refl
+meaning-bare seen (first ∷ []) = alike bareItem (holdsArrow (first .bytes)) (cue-of nowhere first [] (timings (first .bytes))) refl
+meaning-bare seen (first ∷ (second ∷ ls)) =
+    let ls₂ = second ∷ ls in
+    alike bareItem (holdsArrow (first .bytes)) (cue-of nowhere first ls₂ (timings (first .bytes)))
+    (alike bareItem (holdsArrow (second .bytes)) (cue-of first second ls (timings (second .bytes)))
+    (alike bareItem seen refl
+    (alike bareItem (isWord (ascii "STYLE") (first .bytes)) (style-of (joined (unplaced ls₂)) (joined ls₂) (joined-unplaced ls₂))
+    (alike bareItem (isWord (ascii "REGION") (first .bytes)) (region-of (joined (unplaced ls₂)) (joined ls₂) (joined-unplaced ls₂)) refl))))
+
+-- so the items are alike, and whether a cue has succeeded is the same
+tests-bare : (i : Item) → (isCue (bareItem i) ≡ isCue i) × (itemOver (bareItem i) ≡ itemOver i)
+unfolding isCue itemOver bareItem
+tests-bare nothing = (refl, refl)
+tests-bare (cue c over) = (refl, refl)
+tests-bare (style text) = (refl, refl)
+tests-bare (region r over) = (refl, refl)
+
+isCue-unplaced : (seen : Bool) (b : List Part) → isCue (meaning seen (unplaced b)) ≡ isCue (meaning seen b)
+isCue-unplaced seen b =
+    sym (tests-bare (meaning seen (unplaced b)) .0) ∙ ap isCue (meaning-bare seen b) ∙ tests-bare (meaning seen b) .0
+
+items-bare : (seen : Bool) (bs : List (List Part)) → map bareItem (itemsFrom seen (map unplaced bs)) ≡ map bareItem (itemsFrom seen bs)
+unfolding itemsFrom
+items-bare seen [] = refl
+items-bare seen (b ∷ bs) =
+    let rest = items-bare (seen || isCue (meaning seen b)) bs in
+    rw (isCue-unplaced seen b, meaning-bare seen b, rest)
+
+-- the lists of bare items have the same contents
+bareLists : Lists → Lists
+bareLists l = record { cues = map bareCue (l .cues); regions = map bareValues (l .regions); styles = map bare (l .styles) }
+
+into-bare : (i : Item) (l : Lists) → into (bareItem i) (bareLists l) ≡ bareLists (into i l)
+unfolding into bareItem bareLists
+into-bare nothing l = refl
+into-bare (cue c over) l = refl
+into-bare (style text) l = refl
+into-bare (region r over) l = refl
+
+listed-bare : (items : List Item) → listed (map bareItem items) ≡ bareLists (listed items)
+unfolding listed bareLists
+listed-bare [] = refl
+listed-bare (i ∷ items) = ap (into (bareItem i)) (listed-bare items) ∙ into-bare i (listed items)
+
+ids-bare : (rs : List RegionValues) → ids (map bareValues rs) ≡ ids rs
+unfolding ids setId
+ids-bare [] = refl
+ids-bare (r ∷ rs) = ap (λ i. r .id .bytes ∷ i) (ids-bare rs)
+
+cue-contents : (rs : List RegionValues) (c : Cue) → cueContents (map bareValues rs) (bareCue c) ≡ cueContents rs c
+unfolding cueContents regionFor setRegion
+cue-contents rs c = rw (ids-bare rs)
+
+map-alike : {A B C : Type 0} (f : B → C) (g : A → C) (h : A → B) → ((a : A) → f (h a) ≡ g a) → (xs : List A) → map f (map h xs) ≡ map g xs
+map-alike f g h e [] = refl
+map-alike f g h e (x ∷ xs) = rw (e x, map-alike f g h e xs)
+
+region-contents : (r : RegionValues) → regionContents (bareValues r) ≡ regionContents r
+unfolding regionContents setId
+region-contents r = refl
+
+contents-bare : (l : Lists) → contents (bareLists l) ≡ contents l
+unfolding contents bareLists
+contents-bare l =
+    let rs = l .regions in
+    rw (
+      map-alike (cueContents (map bareValues rs)) (cueContents rs) bareCue (cue-contents rs) (l .cues),
+      map-alike regionContents regionContents bareValues region-contents rs,
+      map-alike (λ t. t .bytes) (λ t. t .bytes) bare (λ t. refl) (l .styles),
+    )
+
+contents-items : (items : List Item) → contents (listed (map bareItem items)) ≡ contents (listed items)
+contents-items items = ap contents (listed-bare items) ∙ contents-bare (listed items)
+
+over-items : (items : List Item) → anyOver (map bareItem items) ≡ anyOver items
+unfolding anyOver
+over-items [] = refl
+over-items (i ∷ items) = rw (tests-bare i .1, over-items items)
+
+-- what is the same for bare items is the same for blocks with no places
+by-items :
+    {A : Type 0} (f : List Item → A)
+    → ((items : List Item) → f (map bareItem items) ≡ f items)
+    → (seen : Bool) (bs : List (List Part)) → f (itemsFrom seen (map unplaced bs)) ≡ f (itemsFrom seen bs)
+by-items f e seen bs = sym (e (itemsFrom seen (map unplaced bs))) ∙ ap f (items-bare seen bs) ∙ e (itemsFrom seen bs)
+
+pub contents-unplaced :
+    (seen : Bool) (bs : List (List Part))
+    → contents (listed (itemsFrom seen (map unplaced bs))) ≡ contents (listed (itemsFrom seen bs))
+contents-unplaced seen bs = by-items (λ i. contents (listed i)) contents-items seen bs
+
+pub over-unplaced : (seen : Bool) (bs : List (List Part)) → anyOver (itemsFrom seen (map unplaced bs)) ≡ anyOver (itemsFrom seen bs)
+over-unplaced seen bs = by-items anyOver over-items seen bs
+
+-- blocks with the same bytes are the same without their places
+placeless : List (List ℕ) → List Part
+placeless xs = map (λ x. record { place = 0; bytes = x }) xs
+
+unplaced-by : (ls : List Part) → placeless (bytesOf ls) ≡ unplaced ls
+unfolding placeless bytesOf
+unplaced-by [] = refl
+unplaced-by (l ∷ ls) = ap (λ r. bare l ∷ r) (unplaced-by ls)
+
+by-bytes :
+    {A : Type 0} (f : List Item → A)
+    → ((items : List Item) → f (map bareItem items) ≡ f items)
+    → (seen : Bool) (bs cs : List (List Part))
+    → map bytesOf bs ≡ map bytesOf cs
+    → f (itemsFrom seen bs) ≡ f (itemsFrom seen cs)
+by-bytes f e seen bs cs h =
+    let without = map-alike placeless unplaced bytesOf unplaced-by in
+    let k : map unplaced bs ≡ map unplaced cs = sym (without bs) ∙ ap (map placeless) h ∙ without cs in
+    sym (by-items f e seen bs) ∙ ap (λ b. f (itemsFrom seen b)) k ∙ by-items f e seen cs
+
+pub contents-same :
+    (seen : Bool) (bs cs : List (List Part))
+    → map bytesOf bs ≡ map bytesOf cs
+    → contents (listed (itemsFrom seen bs)) ≡ contents (listed (itemsFrom seen cs))
+contents-same seen bs cs h = by-bytes (λ i. contents (listed i)) contents-items seen bs cs h
+
+pub over-same :
+    (seen : Bool) (bs cs : List (List Part)) → map bytesOf bs ≡ map bytesOf cs → anyOver (itemsFrom seen bs) ≡ anyOver (itemsFrom seen cs)
+over-same seen bs cs h = by-bytes anyOver over-items seen bs cs h

@@ -1,0 +1,498 @@
+-- Every part of a text's lists stands at its place in the text.
+use Prim.Native.Nat.{ℕ, suc, _+_, _-_}
+use mathlib.Core.Path.{_≡_, refl, sym, ap, subst, _∙_}
+use mathlib.Core.Bool.{Bool, true, false, cond, not, _||_, _&&_, false≢true}
+use mathlib.Core.List.{List, [], _∷_, _++_, append-assoc}
+use mathlib.Core.Option.{Option, none, some}
+use native.Mathlib.Omega.{arith}
+use lib.Dec.{eqb, ltb}
+use lib.ListN.{length, take, drop, take-append-drop, length-append, length-drop}
+use lib.Seq.{take-length, append-snoc, take-take, take-add, take-append-seam, drop-append-seam, drop-drop}
+use Rattle.format.specs.Bytes.{ascii, lf, white, digit, fullStop, hyphen, greater, colon, percent, comma}
+use Rattle.format.specs.Limits.{maxLine}
+use Rattle.format.specs.Texts.{Part, nowhere, isEmpty, same, endsWith, beforeFirst, run, pastRun, startsWith}
+use Rattle.format.specs.Numbers.{number, percentage, LineNumber, lineNumber, overLine, lineCount}
+use Rattle.format.specs.Tokens.{inToken, onToken, beforeTokens, tokens, nameOf, valueOf}
+use Rattle.format.specs.CueSettings.{CueSettings, Taken, setRegion, direction, setVertical, setLine, lineAlign, linePercentage, lineCounted}
+use Rattle.format.specs.CueSettings.{lineSetting, setPosition, positionAlign, positionOf, positionSetting, setSize, sizeOf, setAlign, named}
+use Rattle.format.specs.CueSettings.{cueSetting, settingsFrom, cueSettings, isHorizontal, taken, openingSettings}
+use Rattle.format.specs.declared.settings.LineAlign.{LineAlign}
+use Rattle.format.specs.declared.settings.PositionAlign.{PositionAlign}
+use Rattle.format.specs.RegionSettings.{RegionValues, TakenRegion, setId, setWidth, setLines, point, setAnchor, setViewport, setScroll}
+use Rattle.format.specs.RegionSettings.{namedRegion, regionSetting, regionFrom, regionSettings, takenRegion, openingRegion}
+use Rattle.format.specs.Times.{Result, failed, got, onGot, Step, _>>=_, holds, expect, hoursFirst, field, threeValues, inRange, lastSteps}
+use Rattle.format.specs.Times.{timestamp}
+use Rattle.format.specs.TimingLines.{skipWhite, arrow, Times, arrowAndEnd, timings, Timing, withSettings, timingOf, timingLine}
+use Rattle.format.specs.Lines.{endedLines, join}
+use Rattle.format.specs.Blocks.{linesAt, holdsArrow, Collecting, between, header, inside, stops, begin, goOn, collected, ended, next}
+use Rattle.format.specs.Blocks.{blocksFrom, behindSignature, blocks, bytesOf, joined}
+use Rattle.format.specs.Lists.{Cue, Item, nothing, cue, style, region, cueOf, regionOf, isWord, definition, meaning, isCue, itemsFrom}
+use Rattle.format.specs.Lists.{items, Lists, into, listed, lists}
+use Rattle.laws.proofs.Tests.{by-test}
+use Rattle.laws.proofs.Runs.{drop-take, pastRun-drop}
+use Rattle.laws.proofs.Lines.{splits}
+use Rattle.laws.proofs.Tokens.{behind-at}
+
+-- these bytes stand at this place of the text
+abbrev pub StandsAt : List ℕ → ℕ → List ℕ → Type 0
+StandsAt s p x = take (length x) (drop p s) ≡ x
+
+abbrev pub Stands : List ℕ → Part → Type 0
+Stands s l = StandsAt s (l .place) (l .bytes)
+
+pub stands-nowhere : (s : List ℕ) → Stands s nowhere
+stands-nowhere s = refl
+
+pub stands-drop : (s : List ℕ) (p n : ℕ) (x : List ℕ) → StandsAt s p x → StandsAt s (p + n) (drop n x)
+stands-drop s p n x h = rw (length-drop n x, ← drop-drop n p s, ← drop-take n (length x) (drop p s)) (ap (drop n) h)
+
+-- bytes that follow each other stand where they all do
+module _ (s : List ℕ) (p : ℕ) (x y : List ℕ) where
+  pub stands-front : StandsAt s p (x ++ y) → StandsAt s p x
+  stands-front h =
+      sym (take-take (length x) (length (x ++ y)) (drop p s) (omega (arith, length-append x y)))
+      ∙ ap (take (length x)) h
+      ∙ take-append-seam x y
+
+  pub stands-back : StandsAt s p (x ++ y) → StandsAt s (p + length x) y
+  stands-back h = rw (drop-append-seam x y) at (stands-drop s p (length x) (x ++ y) h)
+
+  pub stands-both : StandsAt s p x → StandsAt s (p + length x) y → StandsAt s p (x ++ y)
+  stands-both h k =
+      rw (length-append x y, take-add (length x) (length y) (drop p s), drop-drop (length x) p s) (rw (h, k))
+
+-- every element of a list
+abbrev pub All : {A : Type 0} → (A → Type 0) → List A → Type 0
+All P [] = Unit
+All P (x ∷ xs) = P x × All P xs
+
+all-append : {A : Type 0} (P : A → Type 0) (xs ys : List A) → All P xs → All P ys → All P (xs ++ ys)
+all-append P [] ys g h = h
+all-append P (x ∷ xs) ys g h = (g .0, all-append P xs ys (g .1) h)
+
+-- a choice between two
+pub either : {A : Type 0} (P : A → Type 0) (t : Bool) {a b : A} → P a → P b → P (cond t a b)
+either P true p q = p
+either P false p q = q
+
+-- a value that may be missing
+pub by-option : {A : Type 0} (P : Option A → Type 0) (o : Option A) → P none → ((a : A) → P (some a)) → P o
+by-option P none n s = n
+by-option P (some a) n s = s a
+
+-- where a text begins with a token, that token stands at the text's place
+First : ℕ → List Part → Type 0
+First p [] = ⊥
+First p (t ∷ ts) = t .place ≡ p
+
+first-on : (p b : ℕ) (ts : List Part) → First p (onToken p b ts)
+unfolding First onToken
+first-on p b [] = refl
+first-on p b (t ∷ ts) = refl
+
+first-token : (p : ℕ) (x : List ℕ) → inToken x ≡ true → First p (tokens p x)
+unfolding First tokens beforeTokens inToken
+first-token p [] e = absurd (false≢true e)
+first-token p (b ∷ x) e =
+    by-test (white b)
+    (λ y. absurd (false≢true (rw y at e)))
+    (λ n. rw n (either (First p) (inToken x) (first-on p b (tokens (suc p) x)) refl))
+
+module _ (s : List ℕ) where
+  stands-on : (p b : ℕ) (ts : List Part) → First (suc p) ts → StandsAt s p (b ∷ []) → All (Stands s) ts → All (Stands s) (onToken p b ts)
+  unfolding First onToken
+  stands-on p b [] f h hs = absurd f
+  stands-on p b (t ∷ ts) f h hs =
+      let e : p + 1 ≡ t .place = omega (arith, f) in
+      (stands-both s p (b ∷ []) (t .bytes) h (rw e (hs .0)), hs .1)
+
+  pub stands-token : (p : ℕ) (x : List ℕ) → StandsAt s p x → All (Stands s) (tokens p x)
+  unfolding tokens beforeTokens
+  stands-token p [] h = tt
+  stands-token p (b ∷ x) h =
+      let e : p + 1 ≡ suc p = omega arith in
+      let front = stands-front s p (b ∷ []) x h in
+      let back = stands-token (suc p) x (rw e at (stands-back s p (b ∷ []) x h)) in
+      either (All (Stands s)) (white b)
+      back
+      (by-test (inToken x)
+      (λ y. rw y (stands-on p b (tokens (suc p) x) (first-token (suc p) x y) front back))
+      (λ n. rw n (front, back)))
+
+  pub stands-value : (t : Part) → Stands s t → Stands s (valueOf t)
+  unfolding valueOf nameOf
+  stands-value t h = rw (behind-at colon (t .bytes)) (stands-drop s (t .place) (suc (length (beforeFirst colon (t .bytes)))) (t .bytes) h)
+
+-- a setting leaves a cue's region as it was, takes it away, or puts its value there
+module _ (P : Part → Type 0) (at-nowhere : P nowhere) where
+  OfCue : Taken → Type 0
+  OfCue t = P (t .settings .region)
+
+  line-percentage : (n : Option ℕ) (a : Option LineAlign) (c : CueSettings) → P (c .region) → OfCue (linePercentage n a c)
+  unfolding OfCue linePercentage setLine
+  line-percentage none a c h = h
+  line-percentage (some n) none c h = h
+  line-percentage (some n) (some a) c h = at-nowhere
+
+  line-counted : (n : Option LineNumber) (a : Option LineAlign) (c : CueSettings) → P (c .region) → OfCue (lineCounted n a c)
+  unfolding OfCue lineCounted setLine
+  line-counted none a c h = h
+  line-counted (some n) none c h = h
+  line-counted (some n) (some a) c h = either OfCue (overLine n) h at-nowhere
+
+  position-of : (n : Option ℕ) (a : Option PositionAlign) (c : CueSettings) → P (c .region) → P (positionOf n a c .region)
+  unfolding positionOf setPosition
+  position-of none a c h = h
+  position-of (some n) none c h = h
+  position-of (some n) (some a) c h = h
+
+  cue-setting : (t : Part) (c : CueSettings) → P (valueOf t) → P (c .region) → OfCue (cueSetting t c)
+  unfolding OfCue cueSetting named setRegion setVertical lineSetting positionSetting sizeOf setSize setAlign
+  cue-setting t c v h =
+      let name = nameOf t in
+      let x = valueOf t .bytes in
+      let n = beforeFirst comma x in
+      let a = lineAlign x (c .line .align) in
+      either OfCue (isEmpty name || isEmpty x) h
+      (either OfCue (same name (ascii "region")) v
+      (either OfCue (same name (ascii "vertical")) (either P (isHorizontal (direction x (c .vertical))) h at-nowhere)
+      (either OfCue (same name (ascii "line"))
+      (either OfCue (endsWith percent n) (line-percentage (percentage n) a c h) (line-counted (lineNumber n) a c h))
+      (either OfCue (same name (ascii "position")) (position-of (percentage n) (positionAlign x (c .position .align)) c h)
+      (either OfCue (same name (ascii "size"))
+      (by-option (λ n. P (sizeOf n c .region)) (percentage x) h (λ n. either P (eqb n 100_000_000) h at-nowhere))
+      (either OfCue (same name (ascii "align")) h h))))))
+
+  cue-settings : (s : Taken) (ts : List Part) → All (λ t. P (valueOf t)) ts → OfCue s → OfCue (settingsFrom s ts)
+  unfolding OfCue settingsFrom
+  cue-settings s [] v h = h
+  cue-settings s (t ∷ ts) v h =
+      let r = cueSetting t (s .settings) in
+      cue-settings (record { settings = r .settings; over = s .over || r .over }) ts (v .1) (cue-setting t (s .settings) (v .0) h)
+
+  -- the same for a region's identifier
+  OfRegion : TakenRegion → Type 0
+  OfRegion t = P (t .region .id)
+
+  region-setting : (t : Part) (r : RegionValues) → P (valueOf t) → P (r .id) → OfRegion (regionSetting t r)
+  unfolding OfRegion regionSetting namedRegion setId setWidth setLines setAnchor setViewport setScroll
+  region-setting t r v h =
+      let name = nameOf t in
+      let x = valueOf t .bytes in
+      either OfRegion (isEmpty name || isEmpty x) h
+      (either OfRegion (same name (ascii "id")) v
+      (either OfRegion (same name (ascii "width")) (by-option (λ n. P (setWidth n r .id)) (percentage x) h (λ n. h))
+      (either OfRegion (same name (ascii "lines"))
+      (by-option (λ n. OfRegion (setLines n r)) (lineCount x) h (λ n. either OfRegion (ltb maxLine n) h h))
+      (either OfRegion (same name (ascii "regionanchor")) (by-option (λ p. P (setAnchor p r .id)) (point x) h (λ p. h))
+      (either OfRegion (same name (ascii "viewportanchor")) (by-option (λ p. P (setViewport p r .id)) (point x) h (λ p. h))
+      (either OfRegion (same name (ascii "scroll") && same x (ascii "up")) h h))))))
+
+  region-settings : (s : TakenRegion) (ts : List Part) → All (λ t. P (valueOf t)) ts → OfRegion s → OfRegion (regionFrom s ts)
+  unfolding OfRegion regionFrom
+  region-settings s [] v h = h
+  region-settings s (t ∷ ts) v h =
+      let r = regionSetting t (s .region) in
+      region-settings (record { region = r .region; over = s .over || r .over }) ts (v .1) (region-setting t (s .region) (v .0) h)
+
+all-values : (s : List ℕ) (ts : List Part) → All (Stands s) ts → All (λ t. Stands s (valueOf t)) ts
+all-values s [] h = tt
+all-values s (t ∷ ts) h = (stands-value s t (h .0), all-values s ts (h .1))
+
+stands-values : (s : List ℕ) (p : Part) → Stands s p → All (λ t. Stands s (valueOf t)) (tokens (p .place) (p .bytes))
+stands-values s p h = all-values s (tokens (p .place) (p .bytes)) (stands-token s (p .place) (p .bytes) h)
+
+pub stands-cue-settings : (s : List ℕ) (p : Part) → Stands s p → Stands s (cueSettings p .settings .region)
+unfolding cueSettings OfCue
+stands-cue-settings s p h =
+    let none = stands-nowhere s in
+    cue-settings (Stands s) none (taken openingSettings) (tokens (p .place) (p .bytes)) (stands-values s p h) none
+
+pub stands-region : (s : List ℕ) (p : Part) → Stands s p → Stands s (regionSettings p .region .id)
+unfolding regionSettings OfRegion
+stands-region s p h =
+    let none = stands-nowhere s in
+    region-settings (Stands s) none (takenRegion openingRegion) (tokens (p .place) (p .bytes)) (stands-values s p h) none
+
+-- what a step leaves is the end of what it was given
+pub record End (s rest : List ℕ) : Type 0 where
+  pub gone : List ℕ
+  pub is : s ≡ gone ++ rest
+
+Leaves : {A : Type 0} → List ℕ → Result A → Type 0
+Leaves s failed = Unit
+Leaves s (got a rest) = End s rest
+
+record Keeps {A : Type 0} (m : Step A) : Type 0 where
+  at : (s : List ℕ) → Leaves s (m s)
+
+end-all : (s : List ℕ) → End s s
+end-all s = record { gone = []; is = refl }
+
+end-end : (s t u : List ℕ) → End s t → End t u → End s u
+end-end s t u a b =
+    record { gone = a .gone ++ b .gone; is = a .is ∙ ap (λ r. a .gone ++ r) (b .is) ∙ sym (append-assoc (a .gone) (b .gone) u) }
+
+end-run : (p : ℕ → Bool) (s : List ℕ) → End s (pastRun p s)
+end-run p s =
+    let n = length (run p s) in
+    record { gone = take n s; is = sym (take-append-drop n s) ∙ ap (λ r. take n s ++ r) (sym (pastRun-drop p s)) }
+
+leaves-end : {A : Type 0} (s t : List ℕ) (r : Result A) → End s t → Leaves t r → Leaves s r
+unfolding Leaves
+leaves-end s t failed a h = tt
+leaves-end s t (got x u) a h = end-end s t u a h
+
+on-got : {A B : Type 0} (s : List ℕ) (r : Result A) (f : A → Step B) → Leaves s r → ((a : A) → Keeps (f a)) → Leaves s (onGot r f)
+unfolding Leaves onGot
+on-got s failed f h k = tt
+on-got s (got a t) f h k = leaves-end s t (f a t) h (k a .at t)
+
+then : {A B : Type 0} {m : Step A} {f : A → Step B} → Keeps m → ((a : A) → Keeps (f a)) → Keeps (_>>=_ m f)
+then {m = m} {f = f} h k = record { at = λ s. on-got s (m s) f (h .at s) k }
+
+keeps-got : {A : Type 0} (a : A) → Keeps (got a)
+unfolding Leaves
+keeps-got a = record { at = λ s. end-all s }
+
+keeps-holds : (t : List ℕ → Bool) → Keeps (λ s. holds (t s) s)
+unfolding Leaves
+keeps-holds t = record { at = λ s. either (Leaves s) (t s) (end-all s) tt }
+
+expects : (c : ℕ) (s : List ℕ) → Leaves s (expect c s)
+unfolding Leaves expect
+expects c [] = tt
+expects c (b ∷ s) = either (Leaves (b ∷ s)) (eqb b c) (record { gone = b ∷ []; is = refl }) tt
+
+keeps-expect : (c : ℕ) → Keeps (expect c)
+keeps-expect c = record { at = expects c }
+
+keeps-past : {A : Type 0} (p : ℕ → Bool) (f : List ℕ → A) → Keeps (λ s. got (f s) (pastRun p s))
+unfolding Leaves
+keeps-past p f = record { at = end-run p }
+
+keeps-field : (c n : ℕ) → Keeps (field c n)
+unfolding field
+keeps-field c n =
+    then (keeps-expect c)
+    (λ a. then (keeps-past digit (run digit))
+    (λ ds. then (keeps-holds (λ s. eqb (length ds) n)) (λ a. keeps-got (number ds))))
+
+keeps-three : (first : List ℕ) (second : ℕ) → Keeps (threeValues first second)
+unfolding threeValues
+keeps-three first second = record {
+  at = λ s.
+      either (Leaves s) (hoursFirst first || startsWith (colon ∷ []) s)
+      (then (keeps-field colon 2)
+      (λ third. keeps-got (record { hours = number first; minutes = second; seconds = third; thousandths = 0 })) .at s)
+      (keeps-got (record { hours = 0; minutes = number first; seconds = second; thousandths = 0 }) .at s);
+}
+
+keeps-timestamp : Keeps timestamp
+unfolding timestamp lastSteps
+keeps-timestamp =
+    then (keeps-holds (λ s. not (isEmpty (run digit s)))) (λ a. then (keeps-past digit (run digit))
+    (λ first. then (keeps-field colon 2)
+    (λ second. then (keeps-three first second)
+    (λ t. then (keeps-field fullStop 3)
+    (λ fourth. then (keeps-holds (λ s. inRange t))
+    (λ a. keeps-got (record { hours = t .hours; minutes = t .minutes; seconds = t .seconds; thousandths = fourth })))))))
+
+keeps-white : Keeps skipWhite
+keeps-white = keeps-past white (λ s. tt)
+
+keeps-timings : Keeps timings
+unfolding timings arrowAndEnd arrow
+keeps-timings =
+    then keeps-white
+    (λ a. then keeps-timestamp
+    (λ start. then
+    (then keeps-white
+    (λ a. then (then (keeps-expect hyphen) (λ a. then (keeps-expect hyphen) (λ a. keeps-expect greater)))
+    (λ a. then keeps-white (λ a. keeps-timestamp))))
+    (λ end. keeps-got (record { start = start; end = end }))))
+
+-- a timing line's settings are the end of the line
+timing-of :
+    (s : List ℕ) (line : Part) (t : Timing) (r : Result Times)
+    → Leaves (line .bytes) r
+    → Stands s line
+    → timingOf line r ≡ some t
+    → Stands s (t .settings .region)
+unfolding Leaves timingOf withSettings
+timing-of s line t failed k h e = let z : _≡_ {A = ℕ} 0 1 = cc in absurd (omega arith)
+timing-of s line t (got x rest) k h e =
+    let q = line .place + (length (line .bytes) - length rest) in
+    let n : line .place + length (k .gone) ≡ q = omega (arith, ap length (k .is), length-append (k .gone) rest) in
+    let left : Part = record { place = q; bytes = rest } in
+    let whole : StandsAt s (line .place) (k .gone ++ rest) = rw (k .is) at h in
+    let settled = stands-cue-settings s left (rw n at (stands-back s (line .place) (k .gone) rest whole)) in
+    let f : withSettings x (cueSettings left) ≡ t = cc in
+    subst (λ u. Stands s (u .settings .region)) f settled
+
+pub stands-timing : (s : List ℕ) (line : Part) (t : Timing) → Stands s line → timingLine line ≡ some t → Stands s (t .settings .region)
+unfolding timingLine
+stands-timing s line t h e = timing-of s line t (timings (line .bytes)) (keeps-timings .at (line .bytes)) h e
+
+-- lines that follow each other: from each of them on, they stand as one part
+abbrev pub Follow : List ℕ → List Part → Type 0
+Follow s [] = Unit
+Follow s (l ∷ ls) = Stands s (joined (l ∷ ls)) × Follow s ls
+
+bytes-append : (a b : List Part) → bytesOf (a ++ b) ≡ bytesOf a ++ bytesOf b
+unfolding bytesOf
+bytes-append [] b = refl
+bytes-append (l ∷ a) b = ap (λ r. l .bytes ∷ r) (bytes-append a b)
+
+pub bytes-lines : (p : ℕ) (ls : List (List ℕ)) → bytesOf (linesAt p ls) ≡ ls
+unfolding bytesOf linesAt
+bytes-lines p [] = refl
+bytes-lines p (l ∷ ls) = ap (λ r. l ∷ r) (bytes-lines (p + suc (length l)) ls)
+
+ended-append : (a b : List (List ℕ)) → endedLines (a ++ b) ≡ endedLines a ++ endedLines b
+unfolding endedLines
+ended-append [] b = refl
+ended-append (l ∷ a) b =
+    ap (λ r. lf ∷ (l ++ r)) (ended-append a b) ∙ ap (λ r. lf ∷ r) (sym (append-assoc l (endedLines a) (endedLines b)))
+
+join-append : (l : List ℕ) (a b : List Part) → join (l ∷ bytesOf (a ++ b)) ≡ join (l ∷ bytesOf a) ++ endedLines (bytesOf b)
+unfolding join
+join-append l a b =
+    ap (λ r. l ++ endedLines r) (bytes-append a b)
+    ∙ ap (λ r. l ++ r) (ended-append (bytesOf a) (bytesOf b))
+    ∙ sym (append-assoc l (endedLines (bytesOf a)) (endedLines (bytesOf b)))
+
+-- the lines that a block being collected has so far
+linesIn : Collecting → List Part
+linesIn between = []
+linesIn header = []
+linesIn (inside ls) = ls
+
+module _ (s : List ℕ) where
+  follow-joined : (ls : List Part) → Follow s ls → Stands s (joined ls)
+  unfolding joined
+  follow-joined [] h = stands-nowhere s
+  follow-joined (l ∷ ls) h = h .0
+
+  follow-line : (l : Part) (ls : List Part) → Follow s (l ∷ ls) → Stands s l
+  unfolding joined bytesOf join
+  follow-line l ls h = stands-front s (l .place) (l .bytes) (endedLines (bytesOf ls)) (h .0)
+
+  follow-front : (a b : List Part) → Follow s (a ++ b) → Follow s a
+  unfolding joined bytesOf
+  follow-front [] b h = tt
+  follow-front (l ∷ a) b h =
+      let joins = join-append (l .bytes) a b in
+      (stands-front s (l .place) (join (l .bytes ∷ bytesOf a)) (endedLines (bytesOf b)) (rw joins at (h .0)), follow-front a b (h .1))
+
+  follow-back : (a b : List Part) → Follow s (a ++ b) → Follow s b
+  follow-back [] b h = h
+  follow-back (l ∷ a) b h = follow-back a b (h .1)
+
+  follow-lines : (p : ℕ) (l : List ℕ) (ls : List (List ℕ)) → StandsAt s p (join (l ∷ ls)) → Follow s (linesAt p (l ∷ ls))
+  unfolding joined bytesOf linesAt join endedLines
+  follow-lines p l [] h = (h, tt)
+  follow-lines p l (m ∷ ls) h =
+      let e : p + length l + 1 ≡ p + suc (length l) = omega arith in
+      let rest = stands-back s (p + length l) (lf ∷ []) (m ++ endedLines ls) (stands-back s p l (lf ∷ (m ++ endedLines ls)) h) in
+      (rw (bytes-lines (p + suc (length l) + suc (length m)) ls) h, follow-lines (p + suc (length l)) m ls (rw e at rest))
+
+  -- a block's lines follow each other
+  follow-collected : (st : Collecting) → Follow s (linesIn st) → All (Follow s) (collected st)
+  unfolding linesIn collected
+  follow-collected between h = tt
+  follow-collected header h = tt
+  follow-collected (inside ls) h = (h, tt)
+
+  follow-begin : (l : Part) (ls : List Part) → Follow s (l ∷ ls) → Follow s (linesIn (begin l) ++ ls)
+  unfolding linesIn begin
+  follow-begin l ls h = either (λ st. Follow s (linesIn st ++ ls)) (isEmpty (l .bytes)) (h .1) h
+
+  follow-on : (st : Collecting) (l : Part) (ls : List Part) → Follow s (linesIn st ++ l ∷ ls) → Follow s (linesIn (goOn st l) ++ ls)
+  unfolding linesIn goOn
+  follow-on between l ls h = follow-begin l ls h
+  follow-on header l ls h = h .1
+  follow-on (inside ks) l ls h = rw (append-snoc ks l ls) h
+
+  follow-blocks : (st : Collecting) (ls : List Part) → Follow s (linesIn st ++ ls) → All (Follow s) (blocksFrom st ls)
+  unfolding blocksFrom ended next
+  follow-blocks st [] h = follow-collected st (follow-front (linesIn st) [] h)
+  follow-blocks st (l ∷ ls) h =
+      by-test (stops st l)
+      (λ y. let block = follow-collected st (follow-front (linesIn st) (l ∷ ls) h) in
+      let rest = follow-blocks (begin l) ls (follow-begin l ls (follow-back (linesIn st) (l ∷ ls) h)) in
+      rw y (all-append (Follow s) (collected st) (blocksFrom (begin l) ls) block rest))
+      (λ n. rw n (follow-blocks (goOn st l) ls (follow-on st l ls h)))
+
+  pub blocks-follow : All (Follow s) (blocks s)
+  unfolding blocks behindSignature linesIn linesAt
+  blocks-follow =
+      let t = splits s in
+      let h = follow-lines 0 (t .first) (t .rest) (rw (t .joined) (take-length s)) in
+      rw (t .is) (follow-blocks header (linesAt (0 + suc (length (t .first))) (t .rest)) (h .1))
+
+  -- so the parts of what it gives stand
+  pub record CueStands (c : Cue) : Type 0 where
+    pub id : Stands s (c .id)
+    pub text : Stands s (c .text)
+    pub region : Stands s (c .settings .region)
+
+  abbrev pub ItemStands : Item → Type 0
+  ItemStands nothing = Unit
+  ItemStands (cue c over) = CueStands c
+  ItemStands (style text) = Stands s text
+  ItemStands (region r over) = Stands s (r .id)
+
+  cue-stands :
+      (id line : Part) (ls : List Part) (o : Option Timing)
+      → timingLine line ≡ o
+      → Stands s id
+      → Stands s line
+      → Follow s ls
+      → ItemStands (cueOf id ls o)
+  unfolding cueOf
+  cue-stands id line ls none e i l h = tt
+  cue-stands id line ls (some t) e i l h = record { id = i; text = follow-joined ls h; region = stands-timing s line t l e }
+
+  meaning-stands : (seen : Bool) (b : List Part) → Follow s b → ItemStands (meaning seen b)
+  unfolding meaning definition regionOf
+  meaning-stands seen [] h = tt
+  meaning-stands seen (first ∷ []) h =
+      either ItemStands (holdsArrow (first .bytes))
+      (cue-stands nowhere first [] (timingLine first) refl (stands-nowhere s) (follow-line first [] h) tt) tt
+  meaning-stands seen (first ∷ (second ∷ ls)) h =
+      let ls₂ = second ∷ ls in
+      let one = follow-line first ls₂ h in
+      either ItemStands (holdsArrow (first .bytes))
+      (cue-stands nowhere first ls₂ (timingLine first) refl (stands-nowhere s) one (h .1))
+      (either ItemStands (holdsArrow (second .bytes))
+      (cue-stands first second ls (timingLine second) refl one (follow-line second ls (h .1)) (h .1 .1))
+      (either ItemStands seen tt
+      (either ItemStands (isWord (ascii "STYLE") (first .bytes)) (follow-joined ls₂ (h .1))
+      (either ItemStands (isWord (ascii "REGION") (first .bytes)) (stands-region s (joined ls₂) (follow-joined ls₂ (h .1))) tt))))
+
+  items-stand : (seen : Bool) (bs : List (List Part)) → All (Follow s) bs → All ItemStands (itemsFrom seen bs)
+  unfolding itemsFrom
+  items-stand seen [] h = tt
+  items-stand seen (b ∷ bs) h = (meaning-stands seen b (h .0), items-stand (seen || isCue (meaning seen b)) bs (h .1))
+
+  pub record ListsStand (l : Lists) : Type 0 where
+    pub cues : All CueStands (l .cues)
+    pub regions : All (λ r. Stands s (r .id)) (l .regions)
+    pub styles : All (Stands s) (l .styles)
+
+  into-stands : (i : Item) (l : Lists) → ItemStands i → ListsStand l → ListsStand (into i l)
+  unfolding into
+  into-stands nothing l h k = k
+  into-stands (cue c over) l h k = record { cues = (h, k .cues); regions = k .regions; styles = k .styles }
+  into-stands (style text) l h k = record { cues = k .cues; regions = k .regions; styles = (h, k .styles) }
+  into-stands (region r over) l h k = record { cues = k .cues; regions = (h, k .regions); styles = k .styles }
+
+  listed-stand : (items : List Item) → All ItemStands items → ListsStand (listed items)
+  unfolding listed
+  listed-stand [] h = record { cues = tt; regions = tt; styles = tt }
+  listed-stand (i ∷ items) h = into-stands i (listed items) (h .0) (listed-stand items (h .1))
+
+  pub lists-stand : ListsStand (lists s)
+  unfolding lists items
+  lists-stand = listed-stand (itemsFrom false (blocks s)) (items-stand false (blocks s) blocks-follow)
