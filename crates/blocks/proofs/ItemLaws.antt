@@ -1,0 +1,81 @@
+-- What a block gives, from parts of the text by their places.
+use Prim.Native.Nat.{ℕ, _+_, _-_, _≤_, _<_, min}
+use mathlib.Core.Path.{_≡_, refl, sym, ap, _∙_}
+use mathlib.Core.Bool.{Bool, false, _&&_}
+use mathlib.Core.List.{List, [], _∷_}
+use mathlib.Core.Option.{Option, none, some}
+use native.Mathlib.Omega.{arith}
+use lib.Dec.{eqb, ltb}
+use lib.ListN.{length, take, drop, length-drop}
+use lib.Seq.{length-take-le}
+use borrow.Author.Tests.{eqb-true, eqb-false, eq-eqb, ne-eqb, ltb-true, ltb-false}
+use Rattle.format.specs.Bytes.{white}
+use Rattle.format.specs.Texts.{Part, startsWith, same, isEmpty, all, run}
+use Rattle.format.specs.CueSettings.{spanIs}
+use Rattle.format.specs.RegionSettings.{TakenRegion}
+use Rattle.format.specs.TimingLines.{Timing}
+use Rattle.format.specs.Lists.{regionOf, isWord}
+use Rattle.laws.proofs.Tests.{by-test}
+use Rattle.laws.proofs.Runs.{run-length, all-run, run-not-all}
+use Rattle.values.specs.Tokens.{spanTo, partOf}
+use Rattle.values.proofs.NumberLaws.{is-empty-not}
+use Rattle.timing.specs.TimingLines.{timingLineIs}
+use Rattle.regions.specs.Changes.{takenIs}
+use Rattle.blocks.specs.Items.{part, behindLine, behindSpan, cueWith, itemIs, timedIs, regionItem}
+use Rattle.blocks.proofs.LineLaws.{starts-short}
+
+module _ (s : List ℕ) (a b : ℕ) (h : a ≤ b) (l : b ≤ length s) where
+  pub part-of : partOf s a b ≡ part s a b
+  part-of =
+      let m₁ : min b (length s) ≡ b = omega arith in
+      let m₂ : min a b ≡ a = omega arith in
+      rw (m₁, m₂)
+
+  pub span-part : spanTo a b ≡ spanIs (part s a b)
+  unfolding spanIs isEmpty
+  span-part =
+      let n = length-take-le (b - a) (drop a s) (omega (arith, length-drop a s)) in
+      by-test (eqb a b)
+      (λ y. let z : b - a ≡ 0 = omega (arith, eqb-true a b y) in rw (y, z))
+      (λ f. let end : a + length (take (b - a) (drop a s)) ≡ b = omega arith in
+      let some : 0 < length (take (b - a) (drop a s)) = omega (arith, n, eqb-false a b f) in
+      rw (f, is-empty-not (take (b - a) (drop a s)) some, end))
+
+pub behind-span : (s : List ℕ) (e to : ℕ) → e ≤ to → to ≤ length s → behindSpan e to ≡ spanIs (behindLine s e to)
+unfolding spanIs isEmpty
+behind-span s e to h l =
+    by-test (eqb e to) (λ y. rw y) (λ n. rw n (span-part s (e + 1) to (omega (arith, eqb-false e to n)) l))
+
+pub timed-is : (id text : Part) (o : Option Timing) → timedIs (spanIs id) (spanIs text) (timingLineIs o) ≡ itemIs (cueWith id text o)
+timed-is id text none = refl
+timed-is id text (some t) = by-test (t .over) (λ y. rw y) (λ n. rw n)
+
+pub region-is : (t : TakenRegion) → regionItem (takenIs t) ≡ itemIs (regionOf t)
+unfolding regionOf
+region-is t = refl
+
+starts-same : (w x : List ℕ) → length w ≤ length x → startsWith w x ≡ same (take (length w) x) w
+unfolding startsWith same
+starts-same [] x l = refl
+starts-same (c ∷ w) [] l = absurd (omega arith)
+starts-same (c ∷ w) (b ∷ x) l = ap (λ t. eqb b c && t) (starts-same w x (omega arith))
+
+-- a line that is a word, by the tests that the code makes
+module _ (w x : List ℕ) where
+  pub word-short : length x < length w → isWord w x ≡ false
+  unfolding isWord
+  word-short l = rw (starts-short w x l)
+
+  pub word-is : length w ≤ length x → isWord w x ≡ (same (take (length w) x) w && all white (drop (length w) x))
+  unfolding isWord
+  word-is l = rw (starts-same w x l)
+
+-- a run that ends where the text does
+pub run-to-end : (p : ℕ → Bool) (s : List ℕ) (n : ℕ) → n ≤ length s → eqb (n + length (run p (drop n s))) (length s) ≡ all p (drop n s)
+run-to-end p s n l =
+    let r = run-length p (drop n s) in
+    by-test (ltb (length (run p (drop n s))) (length (drop n s)))
+    (λ y. let k = ltb-true (length (run p (drop n s))) (length (drop n s)) y in
+    ne-eqb (n + length (run p (drop n s))) (length s) (λ q. absurd (omega (arith, length-drop n s))) ∙ sym (run-not-all p (drop n s) k))
+    (λ z. let k = ltb-false (length (run p (drop n s))) (length (drop n s)) z in
+    eq-eqb (n + length (run p (drop n s))) (length s) (omega (arith, length-drop n s)) ∙ sym (all-run p (drop n s) (omega arith)))

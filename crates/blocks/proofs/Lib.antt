@@ -1,0 +1,4 @@
+-- Laws that this crate's proofs cite.
+pub mod LineLaws
+pub mod BlockLaws
+pub mod ItemLaws

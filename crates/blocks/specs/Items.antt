@@ -1,0 +1,108 @@
+-- A collected block by its places, and what it means. `proofs/BlockLaws.antt` proves that this is what `format` says.
+use Prim.Native.Nat.{ℕ, _+_, _-_, _≤_, _<_}
+use mathlib.Core.Path.{_≡_}
+use mathlib.Core.Bool.{Bool, cond}
+use mathlib.Core.List.{List, [], _∷_}
+use mathlib.Core.Option.{Option, none, some}
+use lib.Dec.{eqb}
+use lib.ListN.{length, take, drop}
+use Rattle.format.specs.Bytes.{ascii}
+use Rattle.format.specs.Texts.{Part, nowhere}
+use Rattle.format.specs.RegionSettings.{regionSettings, regionIs}
+use Rattle.format.specs.TimingLines.{Timing, timingLine}
+use Rattle.format.specs.Blocks.{between, blocksFrom}
+use Rattle.format.specs.CueSettings.{spanIs, noSpan, settingsIs}
+use Rattle.format.specs.Lists.{Cue, Item, nothing, cue, style, region, regionOf, isWord, meaning}
+use Rattle.format.specs.declared.settings.Span.{Span}
+use Rattle.values.specs.Tokens.{spanTo}
+use Rattle.timing.specs.declared.timing_line.TimingLine.{TimingLine}
+use Rattle.timing.specs.declared.timing_line.TimingLine.the-variants as TimingLine
+use Rattle.regions.specs.declared.RegionTaken.{RegionTaken}
+use Rattle.blocks.specs.Collecting.{linesFrom}
+use Rattle.blocks.specs.declared.collecting.Stop.{Stop}
+use Rattle.blocks.specs.declared.Next.{Next}
+use Rattle.blocks.specs.declared.Next.the-variants as Next
+use Rattle.blocks.specs.declared.items.CueRead.{CueRead}
+use Rattle.blocks.specs.declared.items.Item as Made
+use Rattle.blocks.specs.declared.items.Item.the-variants as Read
+
+-- the part of a text from one place up to another
+abbrev pub part : List ℕ → ℕ → ℕ → Part
+part s from to = record { place = from; bytes = take (to - from) (drop from s) }
+
+-- the lines behind one that ends at e, up to the block's end
+abbrev pub behindLine : List ℕ → ℕ → ℕ → Part
+behindLine s e to = cond (eqb e to) nowhere (part s (e + 1) to)
+
+abbrev pub cueWith : Part → Part → Option Timing → Item
+cueWith id text none = nothing
+cueWith id text (some t) =
+    cue (record { id = id; start = t .start; end = t .end; settings = t .settings; text = text }) (t .over)
+
+abbrev pub definitionWith : Bool → List ℕ → Part → Item
+definitionWith seen first text =
+    cond seen nothing
+    (cond (isWord (ascii "STYLE") first) (style text)
+    (cond (isWord (ascii "REGION") first) (regionOf (regionSettings text)) nothing))
+
+-- the identifier and the timing line of a block that has one
+abbrev pub idPart : List ℕ → ℕ → Stop → Part
+idPart s from st = cond (eqb (st .head .first) (st .head .end)) nowhere (part s from (st .head .first))
+
+abbrev pub timingPart : List ℕ → ℕ → Stop → Part
+timingPart s from st =
+    cond (eqb (st .head .first) (st .head .end)) (part s from (st .head .end)) (part s (st .head .first + 1) (st .head .end))
+
+-- what the block that begins at a place means, given whether a cue has succeeded
+unfoldable pub meaningAt : Bool → List ℕ → ℕ → Stop → Item
+meaningAt seen s from st =
+    cond (st .head .timed)
+    (cueWith (idPart s from st) (behindLine s (st .head .end) (st .to)) (timingLine (timingPart s from st)))
+    (cond (eqb (st .head .first) (st .to)) nothing
+    (definitionWith seen (part s from (st .head .first) .bytes) (behindLine s (st .head .first) (st .to))))
+
+-- a block of the text that begins at a place, and those behind it
+pub record BlockAt (s : List ℕ) (from : ℕ) (st : Stop) : Type 0 where
+  pub lines : List Part
+  pub divides : blocksFrom between (linesFrom s from) ≡ lines ∷ blocksFrom between (linesFrom s (st .at))
+  pub meant : (seen : Bool) → meaning seen lines ≡ meaningAt seen s from st
+  pub starts : from < st .head .first
+  pub first-end : st .head .first ≤ st .head .end
+  pub end-to : st .head .end ≤ st .to
+  pub to-at : st .to ≤ st .at
+  pub inside : st .at ≤ length s
+
+-- the block that was found at a place or behind it
+pub record NextAt (s : List ℕ) (at from : ℕ) (st : Stop) : Type 0 where
+  pub skipped : at ≤ from
+  pub same : blocksFrom between (linesFrom s at) ≡ blocksFrom between (linesFrom s from)
+  pub block : BlockAt s from st
+
+abbrev pub NextIs : List ℕ → ℕ → Next → Type 0
+NextIs s at Next.None = blocksFrom between (linesFrom s at) ≡ []
+NextIs s at (Next.Block from st) = NextAt s at from st
+
+-- what a block gives, as the code holds it
+abbrev pub cueIs : Cue → CueRead
+cueIs c = record { id = spanIs (c .id); start = c .start; end = c .end; settings = settingsIs (c .settings); text = spanIs (c .text) }
+
+abbrev pub itemIs : Item → Made.Item
+itemIs nothing = Read.Nothing
+itemIs (cue c over) = cond over Read.Over (Read.Cue (cueIs c))
+itemIs (style text) = Read.Style (spanIs text)
+itemIs (region r over) = cond over Read.Over (Read.Region (regionIs r))
+
+abbrev pub behindSpan : ℕ → ℕ → Span
+behindSpan e to = cond (eqb e to) noSpan (spanTo (e + 1) to)
+
+abbrev pub timedIs : Span → Span → TimingLine → Made.Item
+timedIs id text TimingLine.Bad = Read.Nothing
+timedIs id text TimingLine.Over = Read.Over
+timedIs id text (TimingLine.Good t) =
+    Read.Cue (record { id = id; start = t .start; end = t .end; settings = t .settings; text = text })
+
+abbrev pub regionItem : RegionTaken → Made.Item
+regionItem t = cond (t .over) Read.Over (Read.Region (t .region))
+
+abbrev pub definitionIs : Bool → List ℕ → Part → Made.Item
+definitionIs seen first text = itemIs (definitionWith seen first text)

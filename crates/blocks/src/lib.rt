@@ -1,0 +1,49 @@
+// The blocks of a plain text, one after the other, and what each of them gives. Every function ends in linear time.
+use collecting::Head;
+use collecting::Stop;
+use values::bytes::Kind;
+ghost use mathlib.Core.Path.{_≡_};
+ghost use Prim.Native.Nat.{_≤_};
+ghost use lib.ListN.{length};
+ghost use Rattle.format.specs.Blocks.{between, blocksFrom, blocks};
+ghost use Rattle.blocks.specs.Collecting.{linesFrom};
+ghost use Rattle.blocks.specs.Items.{NextIs};
+
+pub mod collecting;
+pub mod items;
+
+// Where the lines begin that stand behind the first line of a text and a header.
+pub fn past_header(s: &[u8]) -> usize
+    ensures { λ r. ⌜ (r ≤ length (now (s .entry))) × (blocks (now (s .entry)) ≡ blocksFrom between (linesFrom (now (s .entry)) r)) ⌝ }
+{
+    let end = values::bytes::past(s, 0, Kind::Until(b'\n'));
+    if end == s.len() {
+        return end;
+    }
+    let stop = collecting::collect(s, end + 1, Head::NONE);
+    stop.at
+}
+
+pub enum Next {
+    None,
+    // A block begins here, and is collected.
+    Block { from: usize, stop: Stop },
+}
+
+// The next block that begins at `at` or behind it.
+pub fn next_block(s: &[u8], at: usize) -> Next
+    requires { ⌜ at ≤ length (now s) ⌝ }
+    ensures { λ r. ⌜ NextIs (now (s .entry)) at r ⌝ }
+{
+    let mut i = at;
+    while i < s.len() {
+        if s[i] != b'\n' {
+            return Next::Block {
+                from: i,
+                stop: collecting::collect(s, i, Head::OPENING),
+            };
+        }
+        i += 1;
+    }
+    Next::None
+}
