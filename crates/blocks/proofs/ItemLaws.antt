@@ -54,7 +54,7 @@ pub region-is : (t : TakenRegion) → regionItem (takenIs t) ≡ itemIs (regionO
 unfolding regionOf
 region-is t = refl
 
-starts-same : (w x : List ℕ) → length w ≤ length x → startsWith w x ≡ same (take (length w) x) w
+pub starts-same : (w x : List ℕ) → length w ≤ length x → startsWith w x ≡ same (take (length w) x) w
 unfolding startsWith same
 starts-same [] x l = refl
 starts-same (c ∷ w) [] l = absurd (omega arith)

@@ -1,0 +1,127 @@
+-- `reader::counting::count_items` meets its contract.
+use Prim.Native.Nat.{ℕ, _≤_, _-_}
+use mathlib.Core.Path.{_≡_, refl, sym, ap, _∙_}
+use mathlib.Core.Bool.{false, _||_}
+use mathlib.Core.List.{List, [], _∷_}
+use native.Mathlib.Omega.{arith}
+use lib.Dec.{ltb}
+use lib.ListN.{length}
+use Rattle.format.specs.Lists.{Item, isCue, itemsFrom, itemOver}
+use Rattle.blocks.specs.Items.{meaningAt, NextAt, itemIs}
+use Rattle.blocks.specs.declared.collecting.Stop.{Stop}
+use Rattle.reader.specs.declared.counting.Tally.{Tally}
+use Rattle.reader.specs.declared.counting.Tally.the-variants as Tally
+use Rattle.reader.specs.Counting.{isOver, withItem, tallyWith, tallyIs}
+use Rattle.reader.proofs.CountLaws.{fresh, items-next, moves, over-is, tally-end, tally-over, tally-next, seen-next, with-most}
+use borrow.Author.Needs.{needs}
+use Rattle.reader.proofs.counting.count_items.Statement.{statement}
+use Rattle.reader.proofs.counting.count_items.Tie as tie
+
+abbrev Inv-loop : tie.InvT-loop
+Inv-loop s from at₀ n₀ at n =
+    (at ≤ length s)
+    × (n .cues ≤ at)
+    × (n .regions ≤ at)
+    × (n .styles ≤ at)
+    × (tallyWith n (itemsFrom (ltb 0 (n .cues)) (fresh s at)) ≡ tallyIs (itemsFrom false (fresh s from)))
+
+abbrev μ-loop : tie.MeasureT-loop
+μ-loop s from at₀ n₀ at n = length s - at
+
+loop-holds : tie.Need-loop-holds Inv-loop μ-loop
+loop-holds c = (omega arith, omega arith, omega arith, omega arith, refl)
+
+next-block-requires : tie.Need-next-block-requires Inv-loop μ-loop
+next-block-requires c κs = omega arith
+
+enum-known-next : tie.Need-enum-known-next Inv-loop μ-loop
+enum-known-next c = search needs
+
+enum-told : tie.Need-enum-told Inv-loop μ-loop
+enum-told c = search needs
+
+returns : tie.Need-returns Inv-loop μ-loop
+unfolding itemsFrom
+returns c =
+    let at = c .before .before .before in
+    let s = at .before .before .args .s .now in
+    let none : fresh s (at .loop .at) ≡ [] = rw (c .enum-told .given .1) at (c .before .before .next-block .ensures) in
+    sym (tally-end (at .loop .n))
+    ∙ ap (λ bs. tallyWith (at .loop .n) (itemsFrom (ltb 0 (at .loop .n .cues)) bs)) (sym none)
+    ∙ at .loop .inv .4
+
+-- the block that was found, and its item
+module _ (c : tie.After-next Inv-loop μ-loop) where
+  abbrev at : tie.At-loop Inv-loop μ-loop
+  at = c .before .before .before
+
+  abbrev s : List ℕ
+  s = at .before .before .args .s .now
+
+  abbrev from : ℕ
+  from = c .next .given .0 .0
+
+  abbrev stop : Stop
+  stop = c .next .given .0 .1 .0
+
+  found : NextAt s (at .loop .at) from stop
+  found = rw (c .next .given .1) at (c .before .before .next-block .ensures)
+
+  abbrev item : Item
+  item = meaningAt (ltb 0 (at .loop .n .cues)) s from stop
+
+  step :
+      (t : Tally)
+      → tallyWith (at .loop .n) (item ∷ itemsFrom (ltb 0 (at .loop .n .cues) || isCue item) (fresh s (stop .at))) ≡ t
+      → t ≡ tallyIs (itemsFrom false (fresh s (at .before .before .args .from)))
+  step t e =
+      sym e
+      ∙ ap (tallyWith (at .loop .n)) (sym (items-next s (at .loop .at) from stop (ltb 0 (at .loop .n .cues)) found))
+      ∙ at .loop .inv .4
+
+item-at-requires : tie.Need-item-at-requires Inv-loop μ-loop
+item-at-requires c κs =
+    let b = found (c .before .before) .block in
+    (b .starts, b .first-end, b .end-to, omega (arith, b .to-at, b .inside))
+
+is-over-requires : tie.Need-is-over-requires Inv-loop μ-loop
+is-over-requires c κs = search needs
+
+over : (c : tie.After-is-over Inv-loop μ-loop) → itemOver (item (c .before .before .before .before)) ≡ c .is-over .result
+over c =
+    let l = c .before .before .before .before in
+    sym (over-is (item l)) ∙ ap isOver (sym (c .before .item-at .ensures)) ∙ sym (c .is-over .ensures)
+
+returns-2 : tie.Need-returns-2 Inv-loop μ-loop
+returns-2 c =
+    let l = c .before .before .before .before .before in
+    let is = itemsFrom (ltb 0 (at l .loop .n .cues) || isCue (item l)) (fresh (s l) (stop l .at)) in
+    step l Tally.Over (tally-over (at l .loop .n) (item l) is (over (c .before) ∙ c .if1 .taken))
+
+with-requires : tie.Need-with-requires Inv-loop μ-loop
+with-requires c κs = (omega arith, omega arith, omega arith)
+
+loop-less : tie.Need-loop-less Inv-loop μ-loop
+loop-less c =
+    let l = c .before .before .before .before .before .before in
+    omega (arith, moves (s l) (at l .loop .at) (from l) (stop l) (found l), found l .block .inside)
+
+loop-again : tie.Need-loop-again Inv-loop μ-loop
+loop-again c =
+    let l = c .before .before .before .before .before .before in
+    let n = at l .loop .n in
+    let none : itemOver (item l) ≡ false = over (c .before .before) ∙ c .before .if1 .left in
+    let more : c .with .result ≡ withItem (itemIs (item l)) n = c .with .ensures ∙ ap (λ i. withItem i n) (c .before .before .before .item-at .ensures) in
+    let most = with-most (itemIs (item l)) n in
+    let far = moves (s l) (at l .loop .at) (from l) (stop l) (found l) in
+    let is = itemsFrom (ltb 0 (n .cues) || isCue (item l)) (fresh (s l) (stop l .at)) in
+    rw more (
+      found l .block .inside,
+      omega (arith, far, most .0),
+      omega (arith, far, most .1),
+      omega (arith, far, most .2),
+      rw (seen-next n (item l) none) (step l (tallyWith (withItem (itemIs (item l)) n) is) (tally-next n (item l) is none)),
+    )
+
+pub count-items-spec : {M : Type 1} → statement M
+count-items-spec = tie.close (tie.spec Inv-loop μ-loop loop-holds next-block-requires enum-known-next enum-told returns item-at-requires is-over-requires returns-2 with-requires loop-less loop-again)

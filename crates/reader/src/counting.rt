@@ -1,0 +1,142 @@
+// The first pass over a text: every refusal that the text itself gives, and how many entries each list has.
+use blocks::Next;
+use blocks::items::Item;
+use format::Plainness;
+use format::Reading;
+ghost use mathlib.Core.Path.{_≡_};
+ghost use mathlib.Core.Bool.{false};
+ghost use Prim.Native.Nat.{_≤_};
+ghost use lib.ListN.{length};
+ghost use Rattle.format.specs.Limits.{maxText};
+ghost use Rattle.format.specs.Blocks.{hasSignature, between, blocksFrom};
+ghost use Rattle.format.specs.Lists.{itemsFrom};
+ghost use Rattle.blocks.specs.Collecting.{linesFrom};
+ghost use Rattle.reader.specs.Counting.{isOver, withItem, tallyIs, countedIs, MeasuredIs};
+
+// How many entries each list has so far.
+pub struct Counts {
+    pub cues: usize,
+    pub regions: usize,
+    pub styles: usize,
+}
+
+impl Counts {
+    pub const NONE: Counts = Counts {
+        cues: 0,
+        regions: 0,
+        styles: 0,
+    };
+
+    // One item more.
+    pub fn with(self, item: Item) -> Counts
+        requires { ⌜ (self .cues ≤ maxText) × (self .regions ≤ maxText) × (self .styles ≤ maxText) ⌝ }
+        ensures { λ r. ⌜ r ≡ withItem item self ⌝ }
+    {
+        let mut n = self;
+        match item {
+            Item::Nothing => {}
+            Item::Over => {}
+            Item::Cue(_) => {
+                n.cues += 1;
+            }
+            Item::Style(_) => {
+                n.styles += 1;
+            }
+            Item::Region(_) => {
+                n.regions += 1;
+            }
+        }
+        n
+    }
+}
+
+pub fn is_over(item: Item) -> bool
+    ensures { λ r. ⌜ r ≡ isOver item ⌝ }
+{
+    match item {
+        Item::Nothing => false,
+        Item::Over => true,
+        Item::Cue(_) => false,
+        Item::Style(_) => false,
+        Item::Region(_) => false,
+    }
+}
+
+pub enum Tally {
+    // A number is above its limit.
+    Over,
+    Counts(Counts),
+}
+
+// What the blocks from `from` on give.
+fn count_items(s: &[u8], from: usize) -> Tally
+    requires { ⌜ (from ≤ length (now s)) × (length (now s) ≤ maxText) ⌝ }
+    ensures { λ r. ⌜ r ≡ tallyIs (itemsFrom false (blocksFrom between (linesFrom (now (s .entry)) from))) ⌝ }
+{
+    let mut at = from;
+    let mut n = Counts::NONE;
+    loop {
+        let next = blocks::next_block(s, at);
+        let Next::Block { from: begin, stop } = next else {
+            return Tally::Counts(n);
+        };
+        let item = blocks::items::item_at(s, begin, stop, 0 < n.cues);
+        if is_over(item) {
+            return Tally::Over;
+        }
+        n = n.with(item);
+        at = stop.at;
+    }
+}
+
+fn has_signature(s: &[u8]) -> bool
+    ensures { λ r. ⌜ r ≡ hasSignature (now (s .entry)) ⌝ }
+{
+    if s.len() < 6 {
+        return false;
+    }
+    if !values::bytes::same_bytes(&s[..6], b"WEBVTT") {
+        return false;
+    }
+    if s.len() == 6 {
+        return true;
+    }
+    let b = s[6];
+    if b == b' ' {
+        return true;
+    }
+    if b == b'\t' {
+        return true;
+    }
+    b == b'\n'
+}
+
+fn counted(tally: Tally) -> Reading
+    ensures { λ r. ⌜ r ≡ countedIs tally ⌝ }
+{
+    match tally {
+        Tally::Over => Reading::OverLimit,
+        Tally::Counts(n) => Reading::Lists {
+            cues: n.cues,
+            regions: n.regions,
+            styles: n.styles,
+        },
+    }
+}
+
+// The counts of a text's lists, or the first refusal that the text gives.
+pub fn measure(s: &[u8]) -> Reading
+    ensures { λ r. ⌜ MeasuredIs (now (s .entry)) r ⌝ }
+{
+    if format::MAX_TEXT < s.len() {
+        return Reading::TextTooLong;
+    }
+    let plainness = plain::first_not_plain(s);
+    if let Plainness::NotPlainAt(at) = plainness {
+        return Reading::TextNotPlainAt(at);
+    }
+    if !has_signature(s) {
+        return Reading::NoSignature;
+    }
+    counted(count_items(s, blocks::past_header(s)))
+}
