@@ -1,6 +1,6 @@
 -- The rows of the lent tables: what each word of a row means, in one place, and what a row of any words says. Percentages and line numbers
 -- are in millionths, times in milliseconds, parts are from a place up to another.
-use Prim.Native.Nat.{ℕ, suc, _-_}
+use Prim.Native.Nat.{ℕ, suc, _-_, min}
 use mathlib.Core.Bool.{Bool, true, false, cond, _&&_}
 use mathlib.Core.List.{List, [], _∷_, map}
 use mathlib.Core.Option.{Option, none, some}
@@ -81,10 +81,14 @@ alignWord Align.End = 2
 alignWord Align.Left = 3
 alignWord Align.Right = 4
 
--- 0 for no region, else its index and one
+-- the greatest number that a word of a row can be
+abbrev pub greatestWord : ℕ
+greatestWord = 18_446_744_073_709_551_615
+
+-- 0 for no region, else its index and one; no list is so long that this would be above the greatest word
 abbrev pub regionWord : RegionIndex → ℕ
 regionWord RegionIndex.None = 0
-regionWord (RegionIndex.At i) = suc i
+regionWord (RegionIndex.At i) = min (suc i) greatestWord
 
 abbrev pub scrollWord : Scroll → ℕ
 scrollWord Scroll.None = 0

@@ -1,12 +1,12 @@
 -- What the blocks of a file give: it divides where the blocks do, and no style and no region comes after a cue.
-use mathlib.Core.Path.{_≡_, refl, ap}
-use mathlib.Core.Bool.{Bool, true, false, cond, _||_}
+use mathlib.Core.Path.{_≡_, refl, ap, _∙_}
+use mathlib.Core.Bool.{Bool, true, false, cond, _||_, true≢false}
 use mathlib.Core.List.{List, [], _∷_, _++_}
 use mathlib.Core.Option.{Option, none, some}
 use Rattle.format.specs.Texts.{Part, nowhere}
 use Rattle.format.specs.TimingLines.{Timing, timingLine}
 use Rattle.format.specs.Blocks.{holdsArrow}
-use Rattle.format.specs.Lists.{Item, nothing, cue, style, region, cueOf, definition, meaning, isCue, succeeded, itemsFrom}
+use Rattle.format.specs.Lists.{Item, nothing, cue, style, region, cueOf, definition, meaning, isCue, succeeded, itemsFrom, Lists, into, listed}
 
 pub items-append :
     (seen : Bool) (bs cs : List (List Part)) → itemsFrom seen (bs ++ cs) ≡ itemsFrom seen bs ++ itemsFrom (succeeded seen bs) cs
@@ -45,3 +45,17 @@ no-definition-behind (first ∷ (second ∷ ls)) =
     rest
     (cue-defines-none nowhere (second ∷ ls) (timingLine first))
     (either-none (holdsArrow (second .bytes)) timed nothing (cue-defines-none first ls (timingLine second)) refl)
+
+no-region : (i : Item) (l : Lists) → isDefinition i ≡ false → into i l .regions ≡ l .regions
+unfolding isDefinition into
+no-region nothing l e = refl
+no-region (cue c over) l e = refl
+no-region (style text) l e = absurd (true≢false e)
+no-region (region r over) l e = absurd (true≢false e)
+
+-- regions never come after a cue
+pub no-regions-behind : (bs : List (List Part)) → listed (itemsFrom true bs) .regions ≡ []
+unfolding itemsFrom listed
+no-regions-behind [] = refl
+no-regions-behind (b ∷ bs) =
+    no-region (meaning true b) (listed (itemsFrom true bs)) (no-definition-behind b) ∙ no-regions-behind bs

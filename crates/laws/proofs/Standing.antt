@@ -471,7 +471,7 @@ module _ (s : List ℕ) where
       (either ItemStands (isWord (ascii "STYLE") (first .bytes)) (follow-joined ls₂ (h .1))
       (either ItemStands (isWord (ascii "REGION") (first .bytes)) (stands-region s (joined ls₂) (follow-joined ls₂ (h .1))) tt))))
 
-  items-stand : (seen : Bool) (bs : List (List Part)) → All (Follow s) bs → All ItemStands (itemsFrom seen bs)
+  pub items-stand : (seen : Bool) (bs : List (List Part)) → All (Follow s) bs → All ItemStands (itemsFrom seen bs)
   unfolding itemsFrom
   items-stand seen [] h = tt
   items-stand seen (b ∷ bs) h = (meaning-stands seen b (h .0), items-stand (seen || isCue (meaning seen b)) bs (h .1))

@@ -1,3 +1,4 @@
 -- Laws that this crate's proofs cite.
 pub mod CountLaws
 pub mod ReadLaws
+pub mod FillLaws

@@ -1,0 +1,126 @@
+-- `reader::filling::fill` meets its contract.
+use Prim.Native.Nat.{ℕ, _≤_, _-_}
+use mathlib.Core.Path.{_≡_, refl, sym, ap, _∙_}
+use mathlib.Core.List.{List, []}
+use native.Mathlib.Omega.{arith}
+use lib.ListN.{length}
+use Rattle.blocks.specs.declared.collecting.Stop.{Stop}
+use Rattle.blocks.specs.Items.{NextAt}
+use Rattle.reader.proofs.CountLaws.{fresh, moves}
+use Rattle.reader.proofs.FillLaws.{Fits, fits-of, Filled, fill-start, fill-room, fill-next, fill-end, fill-lengths}
+use borrow.Author.Needs.{needs}
+use Rattle.reader.proofs.filling.fill.Statement.{statement}
+use Rattle.reader.proofs.filling.fill.Tie as tie
+
+abbrev Inv-loop : tie.InvT-loop
+Inv-loop s from cues₀ regions₀ styles₀ at₀ n₀ cues regions styles at n = Filled s cues₀ regions₀ styles₀ at n cues regions styles
+
+abbrev μ-loop : tie.MeasureT-loop
+μ-loop s from cues₀ regions₀ styles₀ at₀ n₀ cues regions styles at n = length s - at
+
+fits : (c : tie.Start Inv-loop μ-loop) → let a = c .args in Fits (a .text .now) (a .cues .now) (a .regions .now) (a .styles .now)
+fits c =
+    let a = c .args in
+    let pre = c .pre .1 in
+    fits-of (a .text .now) (a .cues .now) (a .regions .now) (a .styles .now) (pre .0) (pre .1) (pre .2)
+
+loop-holds : tie.Need-loop-holds Inv-loop μ-loop
+loop-holds c =
+    let a = c .before .args in
+    let pre = c .before .pre in
+    fill-start (a .text .now) (a .cues .now) (a .regions .now) (a .styles .now) (a .from) (pre .0 .0) (pre .0 .2) (pre .0 .3)
+
+next-block-requires : tie.Need-next-block-requires Inv-loop μ-loop
+next-block-requires c κs = c .loop .inv .inside
+
+enum-known-next : tie.Need-enum-known-next Inv-loop μ-loop
+enum-known-next c = search needs
+
+enum-told : tie.Need-enum-told Inv-loop μ-loop
+enum-told c = search needs
+
+lengths :
+    (c : tie.At-loop Inv-loop μ-loop)
+    → let a = c .before .before .args in
+    (length (c .loop .cues) ≡ length (a .cues .now)) × (length (c .loop .regions) ≡ length (a .regions .now)) × (length (c .loop .styles) ≡ length (a .styles .now))
+lengths c =
+    let start = c .before .before in
+    let a = start .args in
+    fill-lengths (a .text .now) (a .cues .now) (a .regions .now) (a .styles .now) (c .loop .at) (c .loop .n) (c .loop .cues) (c .loop .regions) (c .loop .styles) (fits start) (c .loop .inv)
+
+same-length : tie.Need-same-length Inv-loop μ-loop
+same-length c = lengths (c .before .before .before) .0
+
+same-length-2 : tie.Need-same-length-2 Inv-loop μ-loop
+same-length-2 c = lengths (c .before .before .before) .1
+
+same-length-3 : tie.Need-same-length-3 Inv-loop μ-loop
+same-length-3 c = lengths (c .before .before .before) .2
+
+returns : tie.Need-returns Inv-loop μ-loop
+returns c =
+    let at = c .before .before .before in
+    let start = at .before .before in
+    let a = start .args in
+    let s = a .text .now in
+    let none : fresh s (at .loop .at) ≡ [] = rw (c .enum-told .given .1) at (c .before .before .next-block .ensures) in
+    let full = fill-end s (a .cues .now) (a .regions .now) (a .styles .now) (fits start) (at .loop .at) (at .loop .n) (at .loop .cues) (at .loop .regions) (at .loop .styles) (at .loop .inv) none in
+    (full .0, (full .1, full .2))
+
+-- the block that was found
+module _ (c : tie.After-next Inv-loop μ-loop) where
+  abbrev at : tie.At-loop Inv-loop μ-loop
+  at = c .before .before .before
+
+  abbrev s : List ℕ
+  s = at .before .before .args .text .now
+
+  abbrev from : ℕ
+  from = c .next .given .0 .0
+
+  abbrev stop : Stop
+  stop = c .next .given .0 .1 .0
+
+  found : NextAt s (at .loop .at) from stop
+  found = rw (c .next .given .1) at (c .before .before .next-block .ensures)
+
+item-at-requires : tie.Need-item-at-requires Inv-loop μ-loop
+item-at-requires c κs =
+    let b = found (c .before .before) .block in
+    (b .starts, b .first-end, b .end-to, omega (arith, b .to-at, b .inside))
+
+put-requires : tie.Need-put-requires Inv-loop μ-loop
+put-requires c κs =
+    let item = c .before .before .before in
+    let l = item .before .before .before in
+    let start = at l .before .before in
+    let a = start .args in
+    let own = at l .loop in
+    rw (item .item-at .ensures)
+    (fill-room (s l) (a .cues .now) (a .regions .now) (a .styles .now) (own .at) (from l) (stop l) (found l) (own .n) (own .cues) (own .regions) (own .styles) (own .inv) (fits start))
+
+with-requires : tie.Need-with-requires Inv-loop μ-loop
+with-requires c κs =
+    let at = c .before .before .before .before .before .before .before .before .before .before .before .before .before in
+    let inv = at .loop .inv in
+    let pre = at .before .before .pre .0 in
+    (omega (arith, inv .cues-most, inv .inside, pre .1), omega (arith, inv .regions-most, inv .inside, pre .1), omega (arith, inv .styles-most, inv .inside, pre .1))
+
+loop-less : tie.Need-loop-less Inv-loop μ-loop
+loop-less c =
+    let l = c .before .before .before .before .before .before .before .before .before .before .before in
+    omega (arith, moves (s l) (at l .loop .at) (from l) (stop l) (found l), found l .block .inside)
+
+loop-again : tie.Need-loop-again Inv-loop μ-loop
+loop-again c =
+    let stored = c .before .before .before .before in
+    let item = stored .before .before .before .before in
+    let l = item .before .before .before in
+    let start = at l .before .before in
+    let a = start .args in
+    let own = at l .loop in
+    rw (c .with .ensures, stored .put .ensures .0, stored .put .ensures .1 .0, stored .put .ensures .1 .1, item .item-at .ensures)
+    (fill-next (s l) (a .cues .now) (a .regions .now) (a .styles .now) (own .at) (from l) (stop l) (found l) (own .n) (own .cues) (own .regions) (own .styles) (own .inv) (fits start))
+
+pub fill-spec : {M : Type 1} → statement M
+fill-spec = tie.close (tie.spec Inv-loop μ-loop loop-holds next-block-requires enum-known-next enum-told same-length same-length-2 same-length-3 returns item-at-requires put-requires with-requires loop-less loop-again)

@@ -1,0 +1,103 @@
+// The second pass over a text that is known to be readable: each list's rows are stored at the start of its table.
+use super::counting::Counts;
+use blocks::Next;
+use blocks::items::CueRead;
+use blocks::items::Item;
+use format::rows::CueEntry;
+use format::rows::RegionIndex;
+use format::settings::Span;
+ghost use mathlib.Core.Path.{_≡_};
+ghost use mathlib.Core.Bool.{false};
+ghost use Prim.Native.Nat.{_≤_};
+ghost use lib.ListN.{length, take};
+ghost use Rattle.format.specs.Limits.{maxText};
+ghost use Rattle.format.specs.Blocks.{between, blocksFrom, blocks};
+ghost use Rattle.format.specs.Lists.{items, lists, anyOver};
+ghost use Rattle.format.specs.Rows.{cueRows, regionRows, styleRows};
+ghost use Rattle.format.specs.Answers.{placed};
+ghost use Rattle.blocks.specs.Collecting.{linesFrom};
+ghost use Rattle.reader.specs.Filling.{regionAt, entryOf, cuesWith, regionsWith, stylesWith, RoomFor};
+
+// The region of this name among the first `count` rows.
+fn region_of(text: &[u8], name: Span, regions: &[[u64; 9]], count: usize) -> RegionIndex
+    requires { ⌜ count ≤ length (now regions) ⌝ }
+    ensures { λ r. ⌜ r ≡ regionAt (now (text .entry)) (take count (now (regions .entry))) name ⌝ }
+{
+    if name.from == name.to {
+        return RegionIndex::None;
+    }
+    rows::find_region(text, regions, count, name)
+}
+
+fn entry(text: &[u8], cue: CueRead, regions: &[[u64; 9]], count: usize) -> CueEntry
+    requires { ⌜ count ≤ length (now regions) ⌝ }
+    ensures { λ r. ⌜ r ≡ entryOf (now (text .entry)) (take count (now (regions .entry))) cue ⌝ }
+{
+    let id = cue.id;
+    let part = cue.text;
+    let settings = cue.settings;
+    let vertical = settings.vertical;
+    let line = settings.line;
+    let position = settings.position;
+    let align = settings.align;
+    let name = settings.region;
+    CueEntry {
+        id,
+        start: cue.start,
+        end: cue.end,
+        text: part,
+        vertical,
+        line,
+        position,
+        size: settings.size,
+        align,
+        region: region_of(text, name, regions, count),
+    }
+}
+
+// Stores an item's row behind the rows of its list.
+fn put(text: &[u8], item: Item, n: Counts, cues: &mut [[u64; 17]], regions: &mut [[u64; 9]], styles: &mut [[u64; 2]])
+    requires { ⌜ RoomFor item n (length (now cues)) (length (now regions)) (length (now styles)) ⌝ }
+    ensures cues { λ _. ⌜ now (cues .exit) ≡ cuesWith (now (text .entry)) item n (now (regions .entry)) (now (cues .entry)) ⌝ }
+    ensures regions { λ _. ⌜ now (regions .exit) ≡ regionsWith item n (now (regions .entry)) ⌝ }
+    ensures styles { λ _. ⌜ now (styles .exit) ≡ stylesWith item n (now (styles .entry)) ⌝ }
+{
+    match item {
+        Item::Nothing => {}
+        Item::Over => {}
+        Item::Cue(cue) => {
+            let at = n.cues;
+            cues[at] = rows::cue_row(entry(text, cue, regions, n.regions));
+        }
+        Item::Style(part) => {
+            let at = n.styles;
+            styles[at] = rows::style_row(part);
+        }
+        Item::Region(region) => {
+            let at = n.regions;
+            regions[at] = rows::region_row(region);
+        }
+    }
+}
+
+// The rows of the blocks from `from` on.
+pub fn fill(text: &[u8], from: usize, cues: &mut [[u64; 17]], regions: &mut [[u64; 9]], styles: &mut [[u64; 2]])
+    requires { ⌜ (from ≤ length (now text)) × (length (now text) ≤ maxText) × (blocks (now text) ≡ blocksFrom between (linesFrom (now text) from)) × (anyOver (items (now text)) ≡ false) ⌝ }
+    requires { ⌜ (length (lists (now text) .cues) ≤ length (now cues)) × (length (lists (now text) .regions) ≤ length (now regions)) × (length (lists (now text) .styles) ≤ length (now styles)) ⌝ }
+    ensures cues { λ _. ⌜ now (cues .exit) ≡ placed (cueRows (lists (now (text .entry)) .regions) (lists (now (text .entry)) .cues)) (now (cues .entry)) ⌝ }
+    ensures regions { λ _. ⌜ now (regions .exit) ≡ placed (regionRows (lists (now (text .entry)) .regions)) (now (regions .entry)) ⌝ }
+    ensures styles { λ _. ⌜ now (styles .exit) ≡ placed (styleRows (lists (now (text .entry)) .styles)) (now (styles .entry)) ⌝ }
+{
+    let mut at = from;
+    let mut n = Counts::NONE;
+    loop {
+        let next = blocks::next_block(text, at);
+        let Next::Block { from: begin, stop } = next else {
+            return;
+        };
+        let item = blocks::items::item_at(text, begin, stop, 0 < n.cues);
+        put(text, item, n, cues, regions, styles);
+        n = n.with(item);
+        at = stop.at;
+    }
+}

@@ -1,0 +1,3 @@
+-- Laws that the functions' proofs cite, and the law that coding and decoding are inverse.
+pub mod NameLaws
+pub mod RowLaws

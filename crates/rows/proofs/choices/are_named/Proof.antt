@@ -1,0 +1,82 @@
+-- `rows::choices::are_named` meets its contract.
+use borrow.Author.Tests.{le-ltb}
+use Rattle.format.specs.Rows.{cueCodesNamed}
+use Rattle.rows.proofs.RowLaws.{and-none, last-code}
+use borrow.Author.Needs.{needs}
+use Rattle.rows.proofs.choices.are_named.Statement.{statement}
+use Rattle.rows.proofs.choices.are_named.Tie as tie
+
+array-read-if1 : tie.Need-array-read-if1
+array-read-if1 c = search needs
+
+returns : tie.Need-returns
+unfolding cueCodesNamed
+returns c = simp (le-ltb _ _ (c .if1 .taken))
+
+array-read-if2 : tie.Need-array-read-if2
+array-read-if2 c = search needs
+
+returns-2 : tie.Need-returns-2
+unfolding cueCodesNamed
+returns-2 c = simp (le-ltb _ _ (c .if2 .taken), and-none)
+
+array-read-if3 : tie.Need-array-read-if3
+array-read-if3 c = search needs
+
+returns-3 : tie.Need-returns-3
+unfolding cueCodesNamed
+returns-3 c = simp (le-ltb _ _ (c .if3 .taken), and-none)
+
+array-read-if4 : tie.Need-array-read-if4
+array-read-if4 c = search needs
+
+returns-4 : tie.Need-returns-4
+unfolding cueCodesNamed
+returns-4 c = simp (le-ltb _ _ (c .if4 .taken), and-none)
+
+array-read-if5 : tie.Need-array-read-if5
+array-read-if5 c = search needs
+
+returns-5 : tie.Need-returns-5
+unfolding cueCodesNamed
+returns-5 c = simp (le-ltb _ _ (c .if5 .taken), and-none)
+
+array-read-if6 : tie.Need-array-read-if6
+array-read-if6 c = search needs
+
+returns-6 : tie.Need-returns-6
+unfolding cueCodesNamed
+returns-6 c = simp (le-ltb _ _ (c .if6 .taken), and-none)
+
+array-read-result : tie.Need-array-read-result
+array-read-result c = search needs
+
+returns-7 : tie.Need-returns-7
+returns-7 c =
+    last-code
+    (c .before .before .before .before .before .before .args .t1)
+    (c .before .before .before .before .before .if1 .left)
+    (c .before .before .before .before .if2 .left)
+    (c .before .before .before .if3 .left)
+    (c .before .before .if4 .left)
+    (c .before .if5 .left)
+    (c .if6 .left)
+
+pub are-named-spec : {M : Type 1} → statement M
+are-named-spec =
+    tie.close
+    (tie.spec
+    array-read-if1
+    returns
+    array-read-if2
+    returns-2
+    array-read-if3
+    returns-3
+    array-read-if4
+    returns-4
+    array-read-if5
+    returns-5
+    array-read-if6
+    returns-6
+    array-read-result
+    returns-7)

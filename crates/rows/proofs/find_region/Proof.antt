@@ -1,0 +1,135 @@
+-- `rows::find_region` meets its contract: what is left, the rows before i, gives the answer of all.
+use Prim.Native.Nat.{ℕ, _-_, _≤_}
+use mathlib.Core.Path.{_≡_, refl, sym, ap, _∙_}
+use mathlib.Core.Bool.{cond}
+use mathlib.Core.List.{List, [], map}
+use mathlib.Core.Option.{some}
+use native.Mathlib.Omega.{arith}
+use lib.ListN.{length, take, drop}
+use Rattle.format.specs.RegionSettings.{lastNamed}
+use Rattle.format.specs.Rows.{word}
+use Rattle.values.specs.Tokens.{partOf}
+use Rattle.rows.proofs.NameLaws.{part-bytes, named-before}
+use borrow.Author.Needs.{needs}
+use Rattle.rows.proofs.find_region.Statement.{statement}
+use Rattle.rows.proofs.find_region.Tie as tie
+
+-- the identifier of a row
+abbrev idOf : List ℕ → List ℕ → List ℕ
+idOf s row = partOf s (word 0 row) (word 1 row) .bytes
+
+abbrev Inv-loop : tie.InvT-loop
+Inv-loop text regions count end start wanted i₀ i =
+    (i ≤ length regions)
+    × (lastNamed 0 wanted (map (idOf text) (take count regions)) ≡ lastNamed 0 wanted (map (idOf text) (take i regions)))
+
+abbrev μ-loop : tie.MeasureT-loop
+μ-loop text regions count end start wanted i₀ i = i
+
+least-requires : tie.Need-least-requires Inv-loop μ-loop
+least-requires c κs = search needs
+
+least-requires-2 : tie.Need-least-requires-2 Inv-loop μ-loop
+least-requires-2 c κs = search needs
+
+sub-wanted : tie.Need-sub-wanted Inv-loop μ-loop
+sub-wanted c = search needs
+
+part-wanted-start : tie.Need-part-wanted-start Inv-loop μ-loop
+part-wanted-start c = search needs
+
+part-wanted-end : tie.Need-part-wanted-end Inv-loop μ-loop
+part-wanted-end c = search needs
+
+loop-holds : tie.Need-loop-holds Inv-loop μ-loop
+loop-holds c = (omega arith, refl)
+
+sub-i : tie.Need-sub-i Inv-loop μ-loop
+sub-i c = search needs
+
+mul-row : tie.Need-mul-row Inv-loop μ-loop
+mul-row c = search needs
+
+shared-slice-copy-out-row : tie.Need-shared-slice-copy-out-row Inv-loop μ-loop
+shared-slice-copy-out-row c = search needs
+
+is-named-requires : tie.Need-is-named-requires Inv-loop μ-loop
+is-named-requires c κs = search needs
+
+-- one turn: the row is the one, or the rows before it give the answer
+turn :
+    (c : tie.After-is-named Inv-loop μ-loop)
+    → let at = c .before .before .before in
+    let cut = at .before .before in
+    let args = cut .before .before .before .args in
+    let wanted = take (cut .before .least .result - cut .least2 .result) (drop (cut .least2 .result) (args .text .now)) in
+    lastNamed 0 wanted (map (idOf (args .text .now)) (take (args .count) (args .regions .now)))
+    ≡ cond (c .is-named .result) (some (at .loop .i - 1))
+    (lastNamed 0 wanted (map (idOf (args .text .now)) (take (at .loop .i - 1) (args .regions .now))))
+turn c =
+    let at = c .before .before .before in
+    let cut = at .before .before in
+    let args = cut .before .before .before .args in
+    let i = at .loop .i in
+    let wanted = take (cut .before .least .result - cut .least2 .result) (drop (cut .least2 .result) (args .text .now)) in
+    let before = lastNamed 0 wanted (map (idOf (args .text .now)) (take (i - 1) (args .regions .now))) in
+    at .loop .inv .1
+    ∙ named-before (idOf (args .text .now)) wanted (args .regions .now) [] i (omega arith) (omega arith)
+    ∙ ap (λ t. cond t (some (i - 1)) before) (sym (c .is-named .ensures))
+
+-- the name that was cut
+cut-name :
+    (c : tie.After-least2 Inv-loop μ-loop)
+    → let args = c .before .before .before .args in
+    take (c .before .least .result - c .least2 .result) (drop (c .least2 .result) (args .text .now))
+    ≡ partOf (args .text .now) (args .name .from) (args .name .to) .bytes
+cut-name c =
+    let args = c .before .before .before .args in
+    part-bytes
+    (args .text .now)
+    (args .name .from)
+    (args .name .to)
+    (c .before .least .result)
+    (c .least2 .result)
+    (c .before .least .ensures)
+    (c .least2 .ensures)
+
+returns : tie.Need-returns Inv-loop μ-loop
+returns c =
+    let cut = c .before .before .before .before .before .before in
+    sym (rw (← cut-name cut, turn (c .before), c .if1 .taken))
+
+loop-less : tie.Need-loop-less Inv-loop μ-loop
+loop-less c = search needs
+
+loop-again : tie.Need-loop-again Inv-loop μ-loop
+loop-again c = (omega arith, turn (c .before) ∙ rw (c .if1 .left))
+
+returns-2 : tie.Need-returns-2 Inv-loop μ-loop
+unfolding lastNamed
+returns-2 c =
+    let at = c .before in
+    let cut = at .before .before in
+    let z : at .loop .i ≡ 0 = omega arith in
+    sym (rw (← cut-name cut, at .loop .inv .1, z))
+
+pub find-region-spec : {M : Type 1} → statement M
+find-region-spec =
+    tie.close
+    (tie.spec
+    Inv-loop
+    μ-loop
+    least-requires
+    least-requires-2
+    sub-wanted
+    part-wanted-start
+    part-wanted-end
+    loop-holds
+    sub-i
+    mul-row
+    shared-slice-copy-out-row
+    is-named-requires
+    returns
+    loop-less
+    loop-again
+    returns-2)

@@ -1,0 +1,174 @@
+// Rows of the lent tables: coding and decoding them, and the look-up of a region by its identifier.
+mod choices;
+mod words;
+
+use format::regions::Point;
+use format::regions::Region;
+use format::rows::CueDecoded;
+use format::rows::CueEntry;
+use format::rows::RegionDecoded;
+use format::rows::RegionIndex;
+use format::settings::LinePlace;
+use format::settings::PositionPlace;
+use format::settings::Span;
+use values::bytes::same_bytes;
+ghost use mathlib.Core.Path.{_≡_};
+ghost use mathlib.Core.List.{map};
+ghost use Prim.Native.Nat.{_≤_, _<_, _^_};
+ghost use lib.ListN.{length, take};
+ghost use Rattle.format.specs.Texts.{same};
+ghost use Rattle.format.specs.RegionSettings.{lastNamed};
+ghost use Rattle.format.specs.Rows.{cueWords, regionWords, styleWords, cueOfRow, regionOfRow, indexIs, word, regionWord};
+ghost use Rattle.values.specs.Tokens.{partOf};
+
+// The row of a cue.
+pub fn cue_row(entry: CueEntry) -> [u64; 17]
+    ensures { λ r. ⌜ r ≡ cueWords entry ⌝ }
+{
+    let id = entry.id;
+    let text = entry.text;
+    let vertical = entry.vertical;
+    let place = entry.line;
+    let line = place.line;
+    let align = place.align;
+    let at = entry.position;
+    let position = at.position;
+    let anchor = at.align;
+    let across = entry.align;
+    let region = entry.region;
+    [
+        id.from as u64,
+        id.to as u64,
+        entry.start,
+        entry.end,
+        text.from as u64,
+        text.to as u64,
+        words::direction(vertical),
+        words::line(line),
+        words::line_number(line),
+        words::snap(place.snap),
+        words::line_align(align),
+        words::position(position),
+        words::position_number(position),
+        words::position_align(anchor),
+        entry.size,
+        words::align(across),
+        words::region(region),
+    ]
+}
+
+// The row of a region.
+pub fn region_row(region: Region) -> [u64; 9]
+    ensures { λ r. ⌜ r ≡ regionWords region ⌝ }
+{
+    let id = region.id;
+    let anchor = region.anchor;
+    let viewport = region.viewport;
+    let scroll = region.scroll;
+    [
+        id.from as u64,
+        id.to as u64,
+        region.width,
+        region.lines,
+        anchor.x,
+        anchor.y,
+        viewport.x,
+        viewport.y,
+        words::scroll(scroll),
+    ]
+}
+
+// The row of a style text.
+pub fn style_row(text: Span) -> [u64; 2]
+    ensures { λ r. ⌜ r ≡ styleWords text ⌝ }
+{
+    [text.from as u64, text.to as u64]
+}
+
+// What a cue's row says.
+pub fn cue_entry(row: [u64; 17]) -> CueDecoded
+    ensures { λ r. ⌜ r ≡ cueOfRow row ⌝ }
+{
+    if !choices::are_named(row) {
+        return CueDecoded::Bad;
+    }
+    CueDecoded::Good(CueEntry {
+        id: Span {
+            from: row[0] as usize,
+            to: row[1] as usize,
+        },
+        start: row[2],
+        end: row[3],
+        text: Span {
+            from: row[4] as usize,
+            to: row[5] as usize,
+        },
+        vertical: choices::direction(row[6]),
+        line: LinePlace {
+            line: choices::line(row[7], row[8]),
+            snap: row[9] == 0,
+            align: choices::line_align(row[10]),
+        },
+        position: PositionPlace {
+            position: choices::position(row[11], row[12]),
+            align: choices::position_align(row[13]),
+        },
+        size: row[14],
+        align: choices::align(row[15]),
+        region: choices::region(row[16]),
+    })
+}
+
+// What a region's row says.
+pub fn region_entry(row: [u64; 9]) -> RegionDecoded
+    ensures { λ r. ⌜ r ≡ regionOfRow row ⌝ }
+{
+    if 2 <= row[8] {
+        return RegionDecoded::Bad;
+    }
+    RegionDecoded::Good(Region {
+        id: Span {
+            from: row[0] as usize,
+            to: row[1] as usize,
+        },
+        width: row[2],
+        lines: row[3],
+        anchor: Point {
+            x: row[4],
+            y: row[5],
+        },
+        viewport: Point {
+            x: row[6],
+            y: row[7],
+        },
+        scroll: choices::scroll(row[8]),
+    })
+}
+
+// Is the identifier of a region's row this name.
+fn is_named(text: &[u8], row: [u64; 9], name: &[u8]) -> bool
+    ensures { λ r. ⌜ r ≡ same (partOf (now (text .entry)) (word 0 row) (word 1 row) .bytes) (now (name .entry)) ⌝ }
+{
+    let end = values::least(row[1] as usize, text.len());
+    let start = values::least(row[0] as usize, end);
+    same_bytes(&text[start..end], name)
+}
+
+// The last of the first `count` rows whose region has this name, a part of the text, as its identifier.
+pub fn find_region(text: &[u8], regions: &[[u64; 9]], count: usize, name: Span) -> RegionIndex
+    requires { ⌜ count ≤ length (now regions) ⌝ }
+    ensures { λ r. ⌜ r ≡ indexIs (lastNamed 0 (partOf (now (text .entry)) (name .from) (name .to) .bytes) (map (λ row. partOf (now (text .entry)) (word 0 row) (word 1 row) .bytes) (take count (now (regions .entry))))) ⌝ }
+{
+    let end = values::least(name.to, text.len());
+    let start = values::least(name.from, end);
+    let wanted = &text[start..end];
+    let mut i = count;
+    while 0 < i {
+        i -= 1;
+        let row = regions[i];
+        if is_named(text, row, wanted) {
+            return RegionIndex::At(i as u64);
+        }
+    }
+    RegionIndex::None
+}
