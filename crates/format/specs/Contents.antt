@@ -2,7 +2,6 @@
 use Prim.Native.Nat.{ℕ}
 use mathlib.Core.List.{List, map}
 use mathlib.Core.Option.{Option}
-use Rattle.format.specs.Texts.{Part}
 use Rattle.format.specs.RegionSettings.{RegionValues}
 use Rattle.format.specs.Lists.{Cue, Lists}
 use Rattle.format.specs.Rows.{regionFor}

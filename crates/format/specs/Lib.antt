@@ -18,3 +18,4 @@ pub mod Examples
 pub mod Answers
 pub mod Converting
 pub mod Reading
+pub mod Parts

@@ -8,7 +8,6 @@ use Rattle.format.specs.Limits.{maxText}
 use Rattle.format.specs.Plain.{firstNotPlain}
 use Rattle.format.specs.Blocks.{hasSignature}
 use Rattle.format.specs.Lists.{items, Lists, lists, anyOver}
-use Rattle.format.specs.Rows.{cueRows, regionRows, styleRows}
 use Rattle.format.specs.Answers.{Answer, accepted, refused, ifAccepted, placed}
 use Rattle.format.specs.declared.Reading.{Reading}
 use Rattle.format.specs.declared.Reading.the-variants as Reading

@@ -1,16 +1,16 @@
 -- The second pass over a text: the rows that are stored item by item are the rows of the text's lists.
 use Prim.Native.Nat.{ℕ, _+_, _-_, _≤_, _<_, min}
 use mathlib.Core.Path.{_≡_, refl, sym, ap, subst, _∙_}
-use mathlib.Core.Bool.{Bool, true, false, cond, _||_, true≢false}
+use mathlib.Core.Bool.{Bool, true, false, _||_, true≢false}
 use mathlib.Core.List.{List, [], _∷_, map}
 use native.Mathlib.Omega.{arith}
 use lib.Dec.{eqb, ltb}
 use lib.ListN.{length, length-map, take, drop, set, length-drop, length-take}
-use lib.Seq.{take-length, take-all}
-use borrow.Author.Tests.{eq-eqb, ne-eqb}
+use lib.Seq.{take-length}
+use borrow.Author.Tests.{ne-eqb}
 use Rattle.format.specs.Texts.{Part, isEmpty}
 use Rattle.format.specs.CueSettings.{spanIs}
-use Rattle.format.specs.RegionSettings.{RegionValues, regionIs, lastNamed}
+use Rattle.format.specs.RegionSettings.{RegionValues, regionIs}
 use Rattle.format.specs.Blocks.{blocks}
 use Rattle.format.specs.Answers.{placed}
 use Rattle.format.specs.Lists.{Cue, Item, nothing, cue, style, region, isCue, itemsFrom, items, into, listed, lists, itemOver, anyOver}
@@ -20,7 +20,6 @@ use Rattle.laws.proofs.Filling.{Fills, fills-start, fills-room, fills-some, fil
 use Rattle.laws.proofs.Standing.{Stands, All, CueStands, ItemStands, items-stand, blocks-follow, lists-stand}
 use Rattle.laws.proofs.Lists.{no-regions-behind}
 use Rattle.values.specs.Tokens.{partOf}
-use Rattle.values.proofs.NumberLaws.{is-empty-not}
 use Rattle.blocks.specs.declared.collecting.Stop.{Stop}
 use Rattle.blocks.specs.Items.{meaningAt, NextAt, cueIs, itemIs}
 use Rattle.reader.specs.declared.counting.Counts.{Counts}

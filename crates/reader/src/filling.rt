@@ -56,7 +56,14 @@ fn entry(text: &[u8], cue: CueRead, regions: &[[u64; 9]], count: usize) -> CueEn
 }
 
 // Stores an item's row behind the rows of its list.
-fn put(text: &[u8], item: Item, n: Counts, cues: &mut [[u64; 17]], regions: &mut [[u64; 9]], styles: &mut [[u64; 2]])
+fn put(
+    text: &[u8],
+    item: Item,
+    n: Counts,
+    cues: &mut [[u64; 17]],
+    regions: &mut [[u64; 9]],
+    styles: &mut [[u64; 2]],
+)
     requires { ⌜ RoomFor item n (length (now cues)) (length (now regions)) (length (now styles)) ⌝ }
     ensures cues { λ _. ⌜ now (cues .exit) ≡ cuesWith (now (text .entry)) item n (now (regions .entry)) (now (cues .entry)) ⌝ }
     ensures regions { λ _. ⌜ now (regions .exit) ≡ regionsWith item n (now (regions .entry)) ⌝ }
@@ -81,7 +88,13 @@ fn put(text: &[u8], item: Item, n: Counts, cues: &mut [[u64; 17]], regions: &mut
 }
 
 // The rows of the blocks from `from` on.
-pub fn fill(text: &[u8], from: usize, cues: &mut [[u64; 17]], regions: &mut [[u64; 9]], styles: &mut [[u64; 2]])
+pub fn fill(
+    text: &[u8],
+    from: usize,
+    cues: &mut [[u64; 17]],
+    regions: &mut [[u64; 9]],
+    styles: &mut [[u64; 2]],
+)
     requires { ⌜ (from ≤ length (now text)) × (length (now text) ≤ maxText) × (blocks (now text) ≡ blocksFrom between (linesFrom (now text) from)) × (anyOver (items (now text)) ≡ false) ⌝ }
     requires { ⌜ (length (lists (now text) .cues) ≤ length (now cues)) × (length (lists (now text) .regions) ≤ length (now regions)) × (length (lists (now text) .styles) ≤ length (now styles)) ⌝ }
     ensures cues { λ _. ⌜ now (cues .exit) ≡ placed (cueRows (lists (now (text .entry)) .regions) (lists (now (text .entry)) .cues)) (now (cues .entry)) ⌝ }

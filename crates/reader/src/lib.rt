@@ -1,4 +1,64 @@
-// Reading a plain text into lent tables of cues, regions and style texts. Any bytes and tables of any length are taken.
+// Reading a plain text into lent tables of cues, regions and style texts, and handing back parts of a cue. Any bytes, any numbers and
+// tables of any length are taken.
+use format::Reading;
+ghost use mathlib.Core.Path.{_≡_};
+ghost use mathlib.Core.Bool.{_||_};
+ghost use lib.Dec.{ltb};
+ghost use lib.ListN.{length};
+ghost use Rattle.format.specs.Lists.{lists};
+ghost use Rattle.format.specs.Rows.{cueRows, regionRows, styleRows};
+ghost use Rattle.format.specs.Reading.{readingIs, reading, afterReading};
 
 pub mod counting;
 mod filling;
+pub mod parts;
+
+// Is one of three tables shorter than it has to be.
+fn too_short(cues: usize, regions: usize, styles: usize, need: counting::Counts) -> bool
+    ensures { λ r. ⌜ r ≡ (ltb cues (need .cues) || ltb regions (need .regions) || ltb styles (need .styles)) ⌝ }
+{
+    if cues < need.cues {
+        return true;
+    }
+    if regions < need.regions {
+        return true;
+    }
+    styles < need.styles
+}
+
+// The lists of a plain text, as rows at the start of each table. The meaning of a row's words is in format/specs/Rows.antt.
+pub fn read(
+    text: &[u8],
+    cues: &mut [[u64; 17]],
+    regions: &mut [[u64; 9]],
+    styles: &mut [[u64; 2]],
+) -> Reading
+    ensures answer { λ r. ⌜ readingIs r ≡ reading (now (text .entry)) (length (now (cues .entry))) (length (now (regions .entry))) (length (now (styles .entry))) ⌝ }
+    ensures cues { λ r. ⌜ now (cues .exit) ≡ afterReading (readingIs r) (cueRows (lists (now (text .entry)) .regions) (lists (now (text .entry)) .cues)) (now (cues .entry)) ⌝ }
+    ensures regions { λ r. ⌜ now (regions .exit) ≡ afterReading (readingIs r) (regionRows (lists (now (text .entry)) .regions)) (now (regions .entry)) ⌝ }
+    ensures styles { λ r. ⌜ now (styles .exit) ≡ afterReading (readingIs r) (styleRows (lists (now (text .entry)) .styles)) (now (styles .entry)) ⌝ }
+{
+    let measured = counting::measure(text);
+    let Reading::Lists {
+        cues: c,
+        regions: r,
+        styles: s,
+    } = measured
+    else {
+        return measured;
+    };
+    let need = counting::Counts {
+        cues: c,
+        regions: r,
+        styles: s,
+    };
+    if too_short(cues.len(), regions.len(), styles.len(), need) {
+        return Reading::TablesTooShort {
+            cues: c,
+            regions: r,
+            styles: s,
+        };
+    }
+    filling::fill(text, blocks::past_header(text), cues, regions, styles);
+    measured
+}

@@ -14,11 +14,11 @@ use format::settings::Span;
 use values::bytes::same_bytes;
 ghost use mathlib.Core.Path.{_≡_};
 ghost use mathlib.Core.List.{map};
-ghost use Prim.Native.Nat.{_≤_, _<_, _^_};
+ghost use Prim.Native.Nat.{_≤_, _<_};
 ghost use lib.ListN.{length, take};
 ghost use Rattle.format.specs.Texts.{same};
 ghost use Rattle.format.specs.RegionSettings.{lastNamed};
-ghost use Rattle.format.specs.Rows.{cueWords, regionWords, styleWords, cueOfRow, regionOfRow, indexIs, word, regionWord};
+ghost use Rattle.format.specs.Rows.{cueWords, regionWords, styleWords, cueOfRow, regionOfRow, indexIs, word};
 ghost use Rattle.values.specs.Tokens.{partOf};
 
 // The row of a cue.

@@ -1,5 +1,4 @@
 -- `reader::filling::entry` meets its contract.
-use native.Mathlib.Omega.{arith}
 use borrow.Author.Needs.{needs}
 use Rattle.reader.proofs.filling.entry.Statement.{statement}
 use Rattle.reader.proofs.filling.entry.Tie as tie

@@ -1,7 +1,6 @@
 -- `reader::filling::put` meets its contract.
-use mathlib.Core.Path.{_≡_, refl, sym, ap, _∙_}
+use mathlib.Core.Path.{refl}
 use Prim.Native.Nat.{_≤_, _<_}
-use native.Mathlib.Omega.{arith}
 use lib.ListN.{length}
 use Rattle.reader.specs.Filling.{RoomFor}
 use borrow.Author.Needs.{needs}
