@@ -22,12 +22,14 @@ pub fn convert(raw: &[u8], room: &mut [u8]) -> Converted
         return Converted::TooLong;
     }
     let from = mark_len(raw);
-    let need = measure(raw, from);
-    if room.len() < need {
-        return Converted::RoomTooShort(need);
+    // A room of three times the length is always enough, and then the bytes are gone over once.
+    if room.len() < 3 * raw.len() {
+        let need = measure(raw, from);
+        if room.len() < need {
+            return Converted::RoomTooShort(need);
+        }
     }
-    write(raw, from, room);
-    Converted::Text(need)
+    Converted::Text(write(raw, from, room))
 }
 
 // The first place of a text that holds CR, NUL or a byte of no well-formed sequence.
@@ -81,10 +83,10 @@ fn measure(s: &[u8], from: usize) -> usize
     n
 }
 
-// Writes that text at the start of the room, which is long enough.
-fn write(s: &[u8], from: usize, room: &mut [u8])
+// Writes that text at the start of the room, which is long enough, and hands back its length.
+fn write(s: &[u8], from: usize, room: &mut [u8]) -> usize
     requires { ⌜ (from ≤ length (now s)) × (length (toPlain (drop from (now s))) ≤ length (now room)) ⌝ }
-    ensures { λ _. ⌜ now (room .exit) ≡ placed (toPlain (drop from (now (s .entry)))) (now (room .entry)) ⌝ }
+    ensures { λ r. ⌜ (r ≡ length (toPlain (drop from (now (s .entry))))) × (now (room .exit) ≡ placed (toPlain (drop from (now (s .entry)))) (now (room .entry))) ⌝ }
 {
     let mut i = from;
     let mut n: usize = 0;
@@ -101,6 +103,7 @@ fn write(s: &[u8], from: usize, room: &mut [u8])
             n += p.size();
         }
     }
+    n
 }
 
 // How many bytes stand before the first that is not plain.

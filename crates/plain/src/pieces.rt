@@ -47,13 +47,10 @@ impl Piece {
 pub fn stays(b: u8) -> bool
     ensures { λ r. ⌜ (r ≡ true → Stays b) ⌝ }
 {
-    if b == 0 {
-        return false;
+    if 0x0D < b && b < 0x80 {
+        return true;
     }
-    if b == 0x0D {
-        return false;
-    }
-    b < 0x80
+    b == b'\n'
 }
 
 // A CR at `at`, with LF behind it or not.

@@ -2,14 +2,16 @@
 use Prim.Native.Nat.{ℕ, _≤_, _<_}
 use mathlib.Core.Path.{_≡_, sym, ap, _∙_}
 use mathlib.Core.List.{List, [], _∷_}
+use mathlib.Core.Logic.{⊎-elim}
 use native.Mathlib.Omega.{arith}
-use lib.ListN.{length}
+use lib.ListN.{length, drop}
 use borrow.Author.Needs.{needs}
 use borrow.Author.Tests.{lt-ltb, le-ltb}
 use Rattle.format.specs.Limits.{maxFile}
 use Rattle.format.specs.Plain.{toPlain, plainText}
 use Rattle.format.specs.Answers.{accepted, refused, ifAccepted, placed}
 use Rattle.format.specs.Converting.{convertedIs, converting, convertedRoom}
+use Rattle.laws.proofs.PlainText.{plainText-length}
 use Rattle.plain.proofs.convert.Statement.{statement}
 use Rattle.plain.proofs.convert.Tie as tie
 
@@ -43,24 +45,44 @@ returns c =
 mark-len-requires : tie.Need-mark-len-requires
 mark-len-requires c κs = search needs
 
+mul-if2 : tie.Need-mul-if2
+mul-if2 c = omega arith
+
 measure-requires : tie.Need-measure-requires
 measure-requires c κs = search needs
 
--- what was measured is the plain text's length
-measured : (c : tie.After-measure) → c .measure .result ≡ length (plainText (c .before .before .before .before .before .args .raw .now))
+-- behind the byte order mark stands the whole text
+whole :
+    (c : tie.After-mark-len)
+    → let raw = c .before .before .before .before .args .raw .now in length (toPlain (drop (c .mark-len .result) raw)) ≡ length (plainText raw)
 unfolding plainText
-measured c = c .measure .ensures ∙ ap (λ s. length (toPlain s)) (sym (c .before .mark-len .ensures .1))
+whole c = ap (λ s. length (toPlain s)) (sym (c .mark-len .ensures .1))
+
+-- what was measured is the plain text's length
+measured : (c : tie.After-measure) → c .measure .result ≡ length (plainText (c .before .before .before .before .before .before .args .raw .now))
+measured c = c .measure .ensures ∙ whole (c .before .before)
 
 returns-2 : tie.Need-returns-2
 unfolding convertedIs
 returns-2 c =
-    let args = c .before .before .before .before .before .before .args in
+    let args = c .before .before .before .before .before .before .before .args in
     let need = measured (c .before) in
-    let short = too-short (args .raw .now) (length (args .room .now)) (omega arith) (rw need at (c .if2 .taken)) in
+    let short = too-short (args .raw .now) (length (args .room .now)) (omega arith) (rw need at (c .if3 .taken)) in
     (sym (short ∙ rw need), refusal (args .raw .now) (args .room .now) 2 (length (plainText (args .raw .now)) ∷ []) short)
 
+-- the room has place for the text, measured or not
+enough : (c : tie.Joined2) → let args = c .before .before .before .before .before .args in length (plainText (args .raw .now)) ≤ length (args .room .now)
+enough c =
+    let raw = c .before .before .before .before .before .args .raw .now in
+    ⊎-elim
+    (λ w. omega (arith, w .1 .ensures, whole (c .before), w .2 .left))
+    (λ w. omega (arith, plainText-length raw, w .left))
+    (c .if2 .came)
+
 write-requires : tie.Need-write-requires
-write-requires c κs = search needs
+write-requires c κs =
+    let found = c .before .before in
+    (found .mark-len .ensures .0, omega (arith, enough (c .before), whole found))
 
 same-length : tie.Need-same-length
 same-length c = search needs
@@ -68,14 +90,16 @@ same-length c = search needs
 returns-3 : tie.Need-returns-3
 unfolding convertedIs plainText
 returns-3 c =
-    let found = c .before .before .before .before .before in
-    let args = found .before .before .before .before .before .args in
+    let write = c .before .before in
+    let joined = write .before .before in
+    let found = joined .before in
+    let args = found .before .before .before .before .args in
     let raw = args .raw .now in
     let room = args .room .now in
-    let need = measured found in
-    let ok = fits raw (length room) (omega arith) (omega (arith, need, c .before .before .before .before .if2 .left)) in
-    let text = ap (λ s. placed (toPlain s) room) (sym (found .before .mark-len .ensures .1)) in
-    (sym (ok ∙ rw need), c .before .before .write .ensures ∙ text ∙ acceptance raw room (length (plainText raw) ∷ []) ok)
+    let ok = fits raw (length room) (omega arith) (enough joined) in
+    let size : write .write .result ≡ length (plainText raw) = write .write .ensures .0 ∙ whole found in
+    let text = ap (λ s. placed (toPlain s) room) (sym (found .mark-len .ensures .1)) in
+    (sym (ok ∙ rw size), write .write .ensures .1 ∙ text ∙ acceptance raw room (length (plainText raw) ∷ []) ok)
 
 pub convert-spec : {M : Type 1} → statement M
 convert-spec =
@@ -83,6 +107,7 @@ convert-spec =
     (tie.spec
     returns
     mark-len-requires
+    mul-if2
     measure-requires
     returns-2
     write-requires

@@ -143,7 +143,7 @@ returns c =
     let inv = at .loop .inv in
     let end = at-end (args .s .now) (at .loop .i) (c .loop-test .left) in
     let all : at .loop .n ≡ length whole = omega (arith, ap length (inv .left ∙ end), length-drop (at .loop .n) whole, inv .some) in
-    inv .full ∙ ap (filled whole (args .room .now)) all ∙ filled-all whole (args .room .now) (at .before .before .before .pre .1)
+    (all, inv .full ∙ ap (filled whole (args .room .now)) all ∙ filled-all whole (args .room .now) (at .before .before .before .pre .1))
 
 pub write-spec : {M : Type 1} → statement M
 write-spec =

@@ -1,17 +1,21 @@
 -- `plain::pieces::stays` meets its contract.
-use mathlib.Core.Bool.{false≢true}
-use borrow.Author.Tests.{ltb-true}
+use native.Mathlib.Omega.{arith}
+use borrow.Author.Tests.{eqb-true, ltb-true}
 use Rattle.plain.proofs.pieces.stays.Statement.{statement}
 use Rattle.plain.proofs.pieces.stays.Tie as tie
 
 returns : tie.Need-returns
-returns c e = absurd (false≢true e)
+returns c e =
+    record {
+      notNul = λ z. absurd (omega arith);
+      notCr = λ z. absurd (omega arith);
+      ascii = ltb-true (c .before .before .args .b) 0x80 (c .if2 .taken);
+    }
 
 returns-2 : tie.Need-returns-2
-returns-2 c e = absurd (false≢true e)
-
-returns-3 : tie.Need-returns-3
-returns-3 c e = record { notNul = c .before .if1 .left; notCr = c .if2 .left; ascii = ltb-true _ _ e }
+returns-2 c e =
+    let is = eqb-true (c .before .args .b) 0x0A e in
+    record { notNul = λ z. absurd (omega arith); notCr = λ z. absurd (omega arith); ascii = omega arith }
 
 pub stays-spec : {M : Type 1} → statement M
-stays-spec = tie.close (tie.spec returns returns-2 returns-3)
+stays-spec = tie.close (tie.spec returns returns-2)
