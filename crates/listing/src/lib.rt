@@ -1,0 +1,90 @@
+// Prints on standard output what a player would read of a raw file: its styles, regions and cues, a line each, or the refusal.
+use format::Converted;
+use format::Reading;
+
+mod cue_lines;
+mod output;
+mod region_lines;
+mod style_lines;
+
+// The line of a refusal.
+pub fn refuse(number: u64) {
+    output::print(b"refused\t");
+    output::number(number);
+    output::print(b"\n");
+}
+
+// The line of a refusal to read; nothing for lists.
+fn refuse_reading(answer: Reading) {
+    match answer {
+        Reading::Lists {
+            cues: _,
+            regions: _,
+            styles: _,
+        } => {}
+        Reading::TextTooLong => refuse(1),
+        Reading::TextNotPlainAt(_) => refuse(3),
+        Reading::NoSignature => refuse(4),
+        Reading::OverLimit => refuse(5),
+        Reading::TablesTooShort {
+            cues: _,
+            regions: _,
+            styles: _,
+        } => refuse(6),
+    }
+}
+
+// The lines of a plain text.
+fn show_text(
+    text: &[u8],
+    cues: &mut [[u64; 17]],
+    regions: &mut [[u64; 9]],
+    styles: &mut [[u64; 2]],
+) {
+    let answer = reader::read(text, cues, regions, styles);
+    let Reading::Lists {
+        cues: c,
+        regions: r,
+        styles: s,
+    } = answer
+    else {
+        refuse_reading(answer);
+        return;
+    };
+    style_lines::print_all(text, styles, s);
+    region_lines::print_all(text, regions, r);
+    cue_lines::print_all(text, cues, c);
+}
+
+// The lines of a raw file. Its plain text goes to `text`, and the lists to the tables.
+pub fn show(
+    raw: &[u8],
+    text: &mut [u8],
+    cues: &mut [[u64; 17]],
+    regions: &mut [[u64; 9]],
+    styles: &mut [[u64; 2]],
+) {
+    match plain::convert(raw, text) {
+        Converted::Text(n) => show_text(&text[..n], cues, regions, styles),
+        Converted::TooLong => refuse(1),
+        Converted::RoomTooShort(_) => refuse(2),
+    }
+}
+
+// The lines of an open file, read into `raw`. More input than `raw` holds is refusal 1.
+pub fn show_file(
+    file: i32,
+    raw: &mut [u8],
+    text: &mut [u8],
+    cues: &mut [[u64; 17]],
+    regions: &mut [[u64; 9]],
+    styles: &mut [[u64; 2]],
+) {
+    let n = io::read_full(file, raw);
+    let mut more = [0u8; 1];
+    if 0 < io::read_full(file, &mut more) {
+        refuse(1);
+        return;
+    }
+    show(&raw[..n], text, cues, regions, styles);
+}
