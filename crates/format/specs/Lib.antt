@@ -14,6 +14,8 @@ pub mod Blocks
 pub mod Lists
 pub mod Rows
 pub mod Contents
+pub mod Writable
+pub mod Written
 pub mod Examples
 pub mod Answers
 pub mod Converting
