@@ -8,11 +8,11 @@ use lib.Dec.{eqb, leb, ltb}
 use lib.ListN.{length, getD}
 use Rattle.format.specs.Bytes.{lf, white}
 use Rattle.format.specs.Limits.{maxHours, maxLine}
-use Rattle.format.specs.Texts.{isEmpty, same, has, all}
+use Rattle.format.specs.Texts.{isEmpty, has, all}
 use Rattle.format.specs.Lines.{split}
 use Rattle.format.specs.RegionSettings.{lastNamed}
 use Rattle.format.specs.Blocks.{holdsArrow}
-use Rattle.format.specs.Rows.{word, cueCodesNamed, regionCodesNamed, directionOf, lineOf, lineAlignOf, positionOf, positionAlignOf, alignOf, regionIndexOf, scrollOf}
+use Rattle.format.specs.Rows.{word, regionCodesNamed, directionOf, lineOf, lineAlignOf, positionOf, positionAlignOf, alignOf, regionIndexOf, scrollOf}
 use Rattle.format.specs.Parts.{bytesAt, partPlain, cueTest1}
 use Rattle.format.specs.Contents.{CueContents, RegionContents, Contents}
 use Rattle.format.specs.declared.settings.Line.{Line}

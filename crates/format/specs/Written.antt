@@ -1,11 +1,11 @@
 -- Document 01, "the one written form": what is written of a time, a number, a setting, a cue, a region, a style, and of whole lists. It is
 -- made of tokens and lines; these are joined at the end.
-use Prim.Native.Nat.{ℕ, zero, suc, _+_, _*_, _/_, _%_}
+use Prim.Native.Nat.{ℕ, zero, suc, _+_, _/_, _%_}
 use mathlib.Core.Bool.{Bool, true, false, cond, _&&_}
 use mathlib.Core.List.{List, [], _∷_, _++_, map}
 use mathlib.Core.Option.{Option, none, some}
 use lib.Dec.{eqb}
-use lib.ListN.{length, getD}
+use lib.ListN.{getD}
 use Rattle.format.specs.Bytes.{ascii, lf, space, percent, comma, hyphen, fullStop, colon}
 use Rattle.format.specs.Texts.{isEmpty}
 use Rattle.format.specs.Lines.{split}

@@ -14,7 +14,7 @@ use format::settings::Span;
 use values::bytes::same_bytes;
 ghost use mathlib.Core.Path.{_≡_};
 ghost use mathlib.Core.List.{map};
-ghost use Prim.Native.Nat.{_≤_, _<_};
+ghost use Prim.Native.Nat.{_-_, _≤_, _<_};
 ghost use lib.ListN.{length, take};
 ghost use Rattle.format.specs.Texts.{same};
 ghost use Rattle.format.specs.RegionSettings.{lastNamed};
@@ -162,13 +162,23 @@ pub fn find_region(text: &[u8], regions: &[[u64; 9]], count: usize, name: Span) 
     let end = values::least(name.to, text.len());
     let start = values::least(name.from, end);
     let wanted = &text[start..end];
-    let mut i = count;
-    while 0 < i {
-        i -= 1;
+    let mut k = 0;
+    while k < count {
+        let i = from_end(count, k);
         let row = regions[i];
         if is_named(text, row, wanted) {
             return RegionIndex::At(i as u64);
         }
+        k += 1;
     }
     RegionIndex::None
+}
+
+// The index of a row of `count`, counted from the last one.
+fn from_end(count: usize, k: usize) -> usize
+    requires { ⌜ k < count ⌝ }
+    ensures { λ r. ⌜ r ≡ count - 1 - k ⌝ }
+{
+    let last = count - 1;
+    last - k
 }

@@ -1,5 +1,5 @@
--- `rows::find_region` meets its contract: what is left, the rows before i, gives the answer of all.
-use Prim.Native.Nat.{ℕ, _-_, _≤_}
+-- `rows::find_region` meets its contract: what is left, all rows but the last k, gives the answer of all.
+use Prim.Native.Nat.{ℕ, _+_, _-_, _≤_, _<_}
 use mathlib.Core.Path.{_≡_, refl, sym, ap, _∙_}
 use mathlib.Core.Bool.{cond}
 use mathlib.Core.List.{List, [], map}
@@ -19,12 +19,12 @@ abbrev idOf : List ℕ → List ℕ → List ℕ
 idOf s row = partOf s (word 0 row) (word 1 row) .bytes
 
 abbrev Inv-loop : tie.InvT-loop
-Inv-loop text regions count end start wanted i₀ i =
-    (i ≤ length regions)
-    × (lastNamed 0 wanted (map (idOf text) (take count regions)) ≡ lastNamed 0 wanted (map (idOf text) (take i regions)))
+Inv-loop text regions count end start wanted k₀ k =
+    (k ≤ count)
+    × (lastNamed 0 wanted (map (idOf text) (take count regions)) ≡ lastNamed 0 wanted (map (idOf text) (take (count - k) regions)))
 
 abbrev μ-loop : tie.MeasureT-loop
-μ-loop text regions count end start wanted i₀ i = i
+μ-loop text regions count end start wanted k₀ k = count - k
 
 least-requires : tie.Need-least-requires Inv-loop μ-loop
 least-requires c κs = search needs
@@ -42,16 +42,23 @@ part-wanted-end : tie.Need-part-wanted-end Inv-loop μ-loop
 part-wanted-end c = search needs
 
 loop-holds : tie.Need-loop-holds Inv-loop μ-loop
-loop-holds c = (omega arith, refl)
+loop-holds c =
+    let args = c .before .before .before .before .args in
+    let all : args .count - 0 ≡ args .count = omega arith in
+    (omega arith, rw all refl)
 
-sub-i : tie.Need-sub-i Inv-loop μ-loop
-sub-i c = search needs
+from-end-requires : tie.Need-from-end-requires Inv-loop μ-loop
+from-end-requires c κs = search needs
+
+-- the row's index is inside the table
+row-inside : (c : tie.After-from-end Inv-loop μ-loop) → c .from-end .result < length (c .before .before .before .before .before .before .before .args .regions .now)
+row-inside c = omega (arith, c .from-end .ensures)
 
 mul-row : tie.Need-mul-row Inv-loop μ-loop
-mul-row c = search needs
+mul-row c = let inside = row-inside c in search (needs, inside)
 
 shared-slice-copy-out-row : tie.Need-shared-slice-copy-out-row Inv-loop μ-loop
-shared-slice-copy-out-row c = search needs
+shared-slice-copy-out-row c = row-inside c
 
 is-named-requires : tie.Need-is-named-requires Inv-loop μ-loop
 is-named-requires c κs = search needs
@@ -59,23 +66,27 @@ is-named-requires c κs = search needs
 -- one turn: the row is the one, or the rows before it give the answer
 turn :
     (c : tie.After-is-named Inv-loop μ-loop)
-    → let at = c .before .before .before in
+    → let found = c .before .before in
+    let at = found .before .before in
     let cut = at .before .before in
     let args = cut .before .before .before .args in
     let wanted = take (cut .before .least .result - cut .least2 .result) (drop (cut .least2 .result) (args .text .now)) in
     lastNamed 0 wanted (map (idOf (args .text .now)) (take (args .count) (args .regions .now)))
-    ≡ cond (c .is-named .result) (some (at .loop .i - 1))
-    (lastNamed 0 wanted (map (idOf (args .text .now)) (take (at .loop .i - 1) (args .regions .now))))
+    ≡ cond (c .is-named .result) (some (found .from-end .result))
+    (lastNamed 0 wanted (map (idOf (args .text .now)) (take (found .from-end .result) (args .regions .now))))
 turn c =
-    let at = c .before .before .before in
+    let found = c .before .before in
+    let at = found .before .before in
     let cut = at .before .before in
     let args = cut .before .before .before .args in
-    let i = at .loop .i in
+    let left = args .count - at .loop .k in
+    let i = found .from-end .result in
     let wanted = take (cut .before .least .result - cut .least2 .result) (drop (cut .least2 .result) (args .text .now)) in
-    let before = lastNamed 0 wanted (map (idOf (args .text .now)) (take (i - 1) (args .regions .now))) in
+    let before = lastNamed 0 wanted (map (idOf (args .text .now)) (take i (args .regions .now))) in
+    let last : left - 1 ≡ i = omega (arith, found .from-end .ensures) in
     at .loop .inv .1
-    ∙ named-before (idOf (args .text .now)) wanted (args .regions .now) [] i (omega arith) (omega arith)
-    ∙ ap (λ t. cond t (some (i - 1)) before) (sym (c .is-named .ensures))
+    ∙ rw last at (named-before (idOf (args .text .now)) wanted (args .regions .now) [] left (omega arith) (omega arith))
+    ∙ ap (λ t. cond t (some i) before) (sym (c .is-named .ensures))
 
 -- the name that was cut
 cut-name :
@@ -96,21 +107,29 @@ cut-name c =
 
 returns : tie.Need-returns Inv-loop μ-loop
 returns c =
-    let cut = c .before .before .before .before .before .before in
+    let cut = c .before .before .before .before .before .before .before in
     sym (rw (← cut-name cut, turn (c .before), c .if1 .taken))
+
+add-k : tie.Need-add-k Inv-loop μ-loop
+add-k c = search needs
 
 loop-less : tie.Need-loop-less Inv-loop μ-loop
 loop-less c = search needs
 
 loop-again : tie.Need-loop-again Inv-loop μ-loop
-loop-again c = (omega arith, turn (c .before) ∙ rw (c .if1 .left))
+loop-again c =
+    let found = c .before .before .before in
+    let at = found .before .before in
+    let args = at .before .before .before .before .before .args in
+    let next : args .count - (at .loop .k + 1) ≡ found .from-end .result = omega (arith, found .from-end .ensures) in
+    (omega arith, turn (c .before) ∙ rw (c .if1 .left, next))
 
 returns-2 : tie.Need-returns-2 Inv-loop μ-loop
 unfolding lastNamed
 returns-2 c =
     let at = c .before in
     let cut = at .before .before in
-    let z : at .loop .i ≡ 0 = omega arith in
+    let z : cut .before .before .before .args .count - at .loop .k ≡ 0 = omega arith in
     sym (rw (← cut-name cut, at .loop .inv .1, z))
 
 pub find-region-spec : {M : Type 1} → statement M
@@ -125,11 +144,12 @@ find-region-spec =
     part-wanted-start
     part-wanted-end
     loop-holds
-    sub-i
+    from-end-requires
     mul-row
     shared-slice-copy-out-row
     is-named-requires
     returns
+    add-k
     loop-less
     loop-again
     returns-2)
