@@ -21,3 +21,4 @@ pub mod Answers
 pub mod Converting
 pub mod Reading
 pub mod Parts
+pub mod Writing

@@ -61,3 +61,19 @@ pub enum PartAnswer {
     // Refusal 8: the cue with this number fails test 1.
     NotWritable(usize),
 }
+
+// What writing lists to a file answers.
+pub enum Writing {
+    // The file stands at the start of the output room, this many bytes long.
+    File(usize),
+    // Refusal 8: which list (0 styles, 1 regions, 2 cues), the index in it, and the first failing test.
+    NotWritable {
+        list: usize,
+        index: usize,
+        test: usize,
+    },
+    // Refusal 1: the file to be made is over MAX_FILE bytes.
+    FileTooLong,
+    // Refusal 10: the output room is shorter than the file, which needs this many bytes.
+    OutTooShort(usize),
+}
