@@ -1,0 +1,3 @@
+-- Written, then read, is the same.
+pub mod Numbers
+pub mod Shape

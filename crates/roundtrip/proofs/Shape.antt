@@ -1,0 +1,615 @@
+-- The shape of what is written, read again: lines ended by LF, tokens after spaces, and blocks after empty lines are found as they were put
+-- down, and each block means what it was written for.
+use Prim.Native.Nat.{ℕ, suc, _+_}
+use mathlib.Core.Path.{_≡_, refl, sym, ap, _∙_}
+use mathlib.Core.Bool.{Bool, true, false, cond, not, _&&_, _||_, false≢true, true≢false}
+use mathlib.Core.List.{List, [], _∷_, _++_, map, append-assoc, append-nil}
+use native.Mathlib.Omega.{arith}
+use lib.Dec.{eqb}
+use lib.ListN.{length, length-append}
+use borrow.Author.Tests.{eqb-true, eq-eqb, not-true}
+use Rattle.format.specs.Bytes.{ascii, white, lf, space, colon}
+use Rattle.format.specs.Texts.{Part, nowhere, startsWith, isEmpty, all, run, has, beforeFirst, behindFirst}
+use Rattle.format.specs.Lines.{split, endedLines, join}
+use Rattle.format.specs.Tokens.{inToken, onToken, beforeTokens, tokens, nameOf, valueOf}
+use Rattle.format.specs.Blocks.{hasSignature, seventh, linesAt, holdsArrow, Collecting, between, header, inside, canTime, stops, begin, goOn}
+use Rattle.format.specs.Blocks.{collected, ended, next, blocksFrom, behind, behindSignature, blocks, bytesOf, joined}
+use Rattle.format.specs.TimingLines.{timingLine}
+use Rattle.format.specs.RegionSettings.{regionSettings}
+use Rattle.format.specs.Lists.{Item, style, cueOf, regionOf, isWord, definition, meaning}
+use Rattle.format.specs.Written.{afterSpaces, linesOf, styleLines, apart, lineEnded}
+use Rattle.format.specs.Writable.{noneEmpty, unbroken as unbrokenText}
+use Rattle.laws.proofs.Tests.{and-left, and-right, and-both, and-false, or-first, or-second, by-test, absent}
+use Rattle.laws.proofs.Lines.{unbroken, split-line, split-last, splits}
+use Rattle.laws.proofs.Tokens.{inside as black}
+use Rattle.laws.proofs.Blocks.{blocks-stop, cut}
+use Rattle.laws.proofs.Standing.{All, bytes-lines}
+
+-- the first of two tests, where it is a refusal
+not-left : (a b : Bool) → not a && b ≡ true → a ≡ false
+not-left a b e = not-true a (and-left (not a) b e)
+
+-- lines ended by LF, and the empty line behind the last of them
+pub split-lineEnded : (ls : List (List ℕ)) → unbroken ls ≡ true → split (lineEnded ls) ≡ ls ++ [] ∷ []
+unfolding split lineEnded unbroken
+split-lineEnded [] a = refl
+split-lineEnded (l ∷ ls) a =
+    split-line l (lineEnded ls) (and-left (absent lf l) (unbroken ls) a)
+    ∙ ap (λ r. l ∷ r) (split-lineEnded ls (and-right (absent lf l) (unbroken ls) a))
+
+-- a token: some bytes, none of them whitespace
+unfoldable pub isToken : List ℕ → Bool
+isToken t = not (isEmpty t) && all black t
+
+-- a byte before a token that goes on
+tokens-longer :
+    (p b : ℕ) (s : List ℕ) (t : Part) (ts : List Part)
+    → white b ≡ false
+    → inToken s ≡ true
+    → tokens (suc p) s ≡ t ∷ ts
+    → tokens p (b ∷ s) ≡ record { place = p; bytes = b ∷ t .bytes } ∷ ts
+unfolding tokens beforeTokens onToken
+tokens-longer p b s t ts n i e = rw (n, i, e)
+
+-- a token at the start, where none goes on behind it
+module _ (s : List ℕ) (o : inToken s ≡ false) where
+  tokens-word :
+      (p b : ℕ) (t : List ℕ)
+      → all black (b ∷ t) ≡ true
+      → tokens p (b ∷ (t ++ s)) ≡ record { place = p; bytes = b ∷ t } ∷ tokens (p + suc (length t)) s
+  unfolding tokens beforeTokens inToken all
+  tokens-word p b [] a =
+      let n = not-left (white b) true a in
+      let e : p + 1 ≡ suc p = omega arith in
+      rw (n, o, e)
+  tokens-word p b (c ∷ t) a =
+      let rest = and-right (not (white b)) (all black (c ∷ t)) a in
+      let n = not-left (white b) (all black (c ∷ t)) a in
+      let i = and-left (not (white c)) (all black t) rest in
+      let e : p + suc (suc (length t)) ≡ suc p + suc (length t) = omega arith in
+      let first : Part = record { place = suc p; bytes = c ∷ t } in
+      rw e (tokens-longer p b (c ∷ (t ++ s)) first (tokens (suc p + suc (length t)) s) n i (tokens-word (suc p) c t rest))
+
+  pub tokens-first :
+      (p : ℕ) (t : List ℕ) → isToken t ≡ true → tokens p (t ++ s) ≡ record { place = p; bytes = t } ∷ tokens (p + length t) s
+  unfolding isToken isEmpty
+  tokens-first p [] e = absurd (false≢true e)
+  tokens-first p (b ∷ t) e = tokens-word p b t e
+
+-- tokens, each after the same byte of whitespace
+unfoldable after : ℕ → List (List ℕ) → List ℕ
+after c [] = []
+after c (t ∷ ts) = c ∷ (t ++ after c ts)
+
+module _ (c : ℕ) (w : white c ≡ true) where
+  after-ends : (ts : List (List ℕ)) → inToken (after c ts) ≡ false
+  unfolding after inToken
+  after-ends [] = refl
+  after-ends (t ∷ ts) = rw w
+
+  tokens-past : (p : ℕ) (s : List ℕ) → tokens p (c ∷ s) ≡ tokens (suc p) s
+  unfolding tokens beforeTokens
+  tokens-past p s = rw w
+
+  tokens-row :
+      (p : ℕ) (t : List ℕ) (ts : List (List ℕ)) → All (λ t. isToken t ≡ true) (t ∷ ts) → tokens p (t ++ after c ts) ≡ linesAt p (t ∷ ts)
+  unfolding after linesAt tokens
+  tokens-row p t [] h = tokens-first [] (after-ends []) p t (h .0)
+  tokens-row p t (u ∷ us) h =
+      let e : p + suc (length t) ≡ suc (p + length t) = omega arith in
+      let rest = tokens-past (p + length t) (u ++ after c us) ∙ tokens-row (suc (p + length t)) u us (h .1) in
+      tokens-first (after c (u ∷ us)) (after-ends (u ∷ us)) p t (h .0) ∙ rw e (ap (λ r. record { place = p; bytes = t } ∷ r) rest)
+
+  tokens-after : (p : ℕ) (ts : List (List ℕ)) → All (λ t. isToken t ≡ true) ts → tokens p (after c ts) ≡ linesAt (suc p) ts
+  unfolding after linesAt tokens
+  tokens-after p [] h = refl
+  tokens-after p (t ∷ ts) h = tokens-past p (t ++ after c ts) ∙ tokens-row (suc p) t ts h
+
+after-spaces : (ts : List (List ℕ)) → afterSpaces ts ≡ after space ts
+unfolding afterSpaces after
+after-spaces [] = refl
+after-spaces (t ∷ ts) = ap (λ r. space ∷ (t ++ r)) (after-spaces ts)
+
+after-lines : (ls : List (List ℕ)) → endedLines ls ≡ after lf ls
+unfolding endedLines after
+after-lines [] = refl
+after-lines (l ∷ ls) = ap (λ r. lf ∷ (l ++ r)) (after-lines ls)
+
+white-space : white space ≡ true
+unfolding white
+white-space = refl
+
+white-lf : white lf ≡ true
+unfolding white
+white-lf = refl
+
+-- the tokens of a timing line's settings, and of a region's lines
+pub tokens-afterSpaces : (p : ℕ) (ts : List (List ℕ)) → All (λ t. isToken t ≡ true) ts → tokens p (afterSpaces ts) ≡ linesAt (suc p) ts
+tokens-afterSpaces p ts h = rw (after-spaces ts) (tokens-after space white-space p ts h)
+
+pub tokens-join : (p : ℕ) (ls : List (List ℕ)) → All (λ t. isToken t ≡ true) ls → tokens p (join ls) ≡ linesAt p ls
+unfolding join tokens linesAt
+tokens-join p [] h = refl
+tokens-join p (l ∷ ls) h = rw (after-lines ls) (tokens-row lf white-lf p l ls h)
+
+pub bytes-afterSpaces : (p : ℕ) (ts : List (List ℕ)) → All (λ t. isToken t ≡ true) ts → bytesOf (tokens p (afterSpaces ts)) ≡ ts
+bytes-afterSpaces p ts h = ap bytesOf (tokens-afterSpaces p ts h) ∙ bytes-lines (suc p) ts
+
+pub bytes-join : (p : ℕ) (ls : List (List ℕ)) → All (λ t. isToken t ≡ true) ls → bytesOf (tokens p (join ls)) ≡ ls
+bytes-join p ls h = ap bytesOf (tokens-join p ls h) ∙ bytes-lines p ls
+
+-- a name, a byte that is not in it, and a value
+module _ (c : ℕ) (value : List ℕ) where
+  before-first : (name : List ℕ) → absent c name ≡ true → beforeFirst c (name ++ c ∷ value) ≡ name
+  unfolding beforeFirst run absent
+  before-first [] a = rw (eq-eqb c c refl)
+  before-first (b ∷ name) a =
+      rw (not-left (eqb b c) (absent c name) a)
+      (ap (λ r. b ∷ r) (before-first name (and-right (not (eqb b c)) (absent c name) a)))
+
+  behind-first : (name : List ℕ) → absent c name ≡ true → behindFirst c (name ++ c ∷ value) ≡ value
+  unfolding behindFirst absent
+  behind-first [] a = rw (eq-eqb c c refl)
+  behind-first (b ∷ name) a =
+      rw (not-left (eqb b c) (absent c name) a) (behind-first name (and-right (not (eqb b c)) (absent c name) a))
+
+module _ (t : Part) (name value : List ℕ) (a : absent colon name ≡ true) (e : t .bytes ≡ name ++ colon ∷ value) where
+  pub setting-name : nameOf t ≡ name
+  unfolding nameOf
+  setting-name = ap (beforeFirst colon) e ∙ before-first colon value name a
+
+  pub setting-value : valueOf t ≡ record { place = t .place + suc (length name); bytes = value }
+  unfolding valueOf
+  setting-value = rw (setting-name, e, behind-first colon value name a)
+
+-- no line holds `-->`
+unfoldable pub noArrow : List (List ℕ) → Bool
+noArrow [] = true
+noArrow (l ∷ ls) = not (holdsArrow l) && noArrow ls
+
+-- a line that holds `-->` is line 1, or line 2 where line 1 holds none; first, the lines from line 2 on in the second case
+unfoldable pub fromSecond : List (List ℕ) → Bool
+fromSecond [] = true
+fromSecond (l ∷ ls) = noArrow ls
+
+unfoldable pub timed : List (List ℕ) → Bool
+timed [] = false
+timed (l ∷ ls) = cond (holdsArrow l) (noArrow ls) (fromSecond ls)
+
+-- lines of which collecting makes one block: there are some, none of them is empty, and it stops before none of them
+pub record Closed (b : List (List ℕ)) : Type 0 where
+  pub full : noneEmpty b ≡ true
+  pub once : timed b ≡ true
+
+-- a line before which collecting does not stop
+goes-on :
+    (b : List Part) (l : Part) (ls : List Part)
+    → stops (inside b) l ≡ false
+    → blocksFrom (inside b) (l ∷ ls) ≡ blocksFrom (inside (b ++ l ∷ [])) ls
+unfolding blocksFrom ended next goOn
+goes-on b l ls e = rw e
+
+quiet-line : (b : List Part) (l : Part) → isEmpty (l .bytes) ≡ false → holdsArrow (l .bytes) ≡ false → stops (inside b) l ≡ false
+unfolding stops
+quiet-line b l e a = rw (e, a)
+
+second-line : (first l : Part) → isEmpty (l .bytes) ≡ false → holdsArrow (first .bytes) ≡ false → stops (inside (first ∷ [])) l ≡ false
+unfolding stops canTime
+second-line first l e a = rw (e, a) (and-false (holdsArrow (l .bytes)) false refl)
+
+-- lines behind a block's begin that hold no `-->`
+quiet-lines :
+    (b : List Part) (p : ℕ) (ls : List (List ℕ))
+    → noneEmpty ls ≡ true
+    → noArrow ls ≡ true
+    → blocksFrom (inside b) (linesAt p ls) ≡ (b ++ linesAt p ls) ∷ []
+unfolding linesAt noneEmpty noArrow blocksFrom collected
+quiet-lines b p [] f n = rw (append-nil b)
+quiet-lines b p (l ∷ ls) f n =
+    let at : Part = record { place = p; bytes = l } in
+    let rest = linesAt (p + suc (length l)) ls in
+    let e = not-left (isEmpty l) (noneEmpty ls) f in
+    let a = not-left (holdsArrow l) (noArrow ls) n in
+    goes-on b at rest (quiet-line b at e a)
+    ∙ quiet-lines (b ++ at ∷ []) (p + suc (length l)) ls (and-right (not (isEmpty l)) (noneEmpty ls) f)
+    (and-right (not (holdsArrow l)) (noArrow ls) n)
+    ∙ ap (λ r. r ∷ []) (append-assoc b (at ∷ []) rest)
+
+begins : (l : Part) (ls : List Part) → isEmpty (l .bytes) ≡ false → blocksFrom between (l ∷ ls) ≡ blocksFrom (inside (l ∷ [])) ls
+unfolding blocksFrom ended next stops collected begin
+begins l ls e = rw e
+
+-- a closed block alone
+closed-rest :
+    (first : Part) (p : ℕ) (ls : List (List ℕ))
+    → noneEmpty ls ≡ true
+    → cond (holdsArrow (first .bytes)) (noArrow ls) (fromSecond ls) ≡ true
+    → blocksFrom (inside (first ∷ [])) (linesAt p ls) ≡ (first ∷ linesAt p ls) ∷ []
+unfolding linesAt noneEmpty noArrow fromSecond blocksFrom collected
+closed-rest first p [] f t = refl
+closed-rest first p (l ∷ ls) f t =
+    by-test (holdsArrow (first .bytes))
+    (λ y. quiet-lines (first ∷ []) p (l ∷ ls) f (rw y at t))
+    (λ n. let at : Part = record { place = p; bytes = l } in
+    let rest = linesAt (p + suc (length l)) ls in
+    let e = not-left (isEmpty l) (noneEmpty ls) f in
+    goes-on (first ∷ []) at rest (second-line first at e n)
+    ∙ quiet-lines (first ∷ at ∷ []) (p + suc (length l)) ls (and-right (not (isEmpty l)) (noneEmpty ls) f) (rw n at t))
+
+pub closed-block : (p : ℕ) (b : List (List ℕ)) → Closed b → blocksFrom between (linesAt p b) ≡ linesAt p b ∷ []
+unfolding linesAt noneEmpty timed
+closed-block p [] c = absurd (false≢true (c .once))
+closed-block p (l ∷ ls) c =
+    let at : Part = record { place = p; bytes = l } in
+    let e = not-left (isEmpty l) (noneEmpty ls) (c .full) in
+    begins at (linesAt (p + suc (length l)) ls) e
+    ∙ closed-rest at (p + suc (length l)) ls (and-right (not (isEmpty l)) (noneEmpty ls) (c .full)) (c .once)
+
+-- an empty line ends what is being collected
+stops-empty : (st : Collecting) (l : Part) → isEmpty (l .bytes) ≡ true → stops st l ≡ true
+unfolding stops
+stops-empty between l e = refl
+stops-empty header l e = rw e
+stops-empty (inside ls) l e = rw e
+
+gap : (l : Part) (ls : List Part) → isEmpty (l .bytes) ≡ true → blocksFrom between (l ∷ ls) ≡ blocksFrom between ls
+unfolding blocksFrom ended next stops collected begin
+gap l ls e = rw e
+
+lines-append : (p : ℕ) (a b : List (List ℕ)) → linesAt p (a ++ b) ≡ linesAt p a ++ linesAt (p + length (lineEnded a)) b
+unfolding linesAt lineEnded
+lines-append p [] b = let e : p + 0 ≡ p = omega arith in rw e
+lines-append p (l ∷ a) b =
+    let n = length-append l (lf ∷ lineEnded a) in
+    let e : p + length (l ++ lf ∷ lineEnded a) ≡ p + suc (length l) + length (lineEnded a) = omega arith in
+    rw e (ap (λ r. record { place = p; bytes = l } ∷ r) (lines-append (p + suc (length l)) a b))
+
+-- lines behind a block that begin with an empty one
+module _ (b : List (List ℕ)) (c : Closed b) (p : ℕ) where
+  closed-before :
+      (l : Part) (ls : List Part)
+      → isEmpty (l .bytes) ≡ true
+      → blocksFrom between (linesAt p b ++ l ∷ ls) ≡ linesAt p b ∷ blocksFrom between (l ∷ ls)
+  closed-before l ls e =
+      cut between (linesAt p b) l ls (stops-empty (behind between (linesAt p b)) l e)
+      ∙ ap (λ r. r ++ blocksFrom between (l ∷ ls)) (closed-block p b c)
+
+  closed-apart :
+      (bs : List (List (List ℕ)))
+      → blocksFrom between (linesAt p (b ++ (apart bs ++ [] ∷ [])))
+      ≡ linesAt p b ∷ blocksFrom between (linesAt (p + length (lineEnded b)) (apart bs ++ [] ∷ []))
+  unfolding apart linesAt isEmpty
+  closed-apart [] = ap (blocksFrom between) (lines-append p b ([] ∷ [])) ∙ closed-before _ _ refl
+  closed-apart (d ∷ bs) = ap (blocksFrom between) (lines-append p b (apart (d ∷ bs) ++ [] ∷ [])) ∙ closed-before _ _ refl
+
+blocks-apart :
+    (p : ℕ) (bs : List (List (List ℕ))) → All Closed bs → map bytesOf (blocksFrom between (linesAt p (apart bs ++ [] ∷ []))) ≡ bs
+unfolding apart linesAt isEmpty blocksFrom collected
+blocks-apart p [] cs = ap (map bytesOf) (gap (record { place = p; bytes = [] }) [] refl)
+blocks-apart p (b ∷ bs) cs =
+    let past = gap (record { place = p; bytes = [] }) (linesAt (p + 1) (b ++ (apart bs ++ [] ∷ []))) refl in
+    let rest = blocks-apart (p + 1 + length (lineEnded b)) bs (cs .1) in
+    rw (append-assoc b (apart bs) ([] ∷ []))
+    (ap (map bytesOf) (past ∙ closed-apart b (cs .0) (p + 1) bs) ∙ rw (bytes-lines (p + 1) b, rest))
+
+-- the first empty line ends the header block, which yields nothing
+header-ends :
+    (p : ℕ) (bs : List (List (List ℕ)))
+    → blocksFrom header (linesAt p (apart bs ++ [] ∷ [])) ≡ blocksFrom between (linesAt p (apart bs ++ [] ∷ []))
+unfolding apart linesAt isEmpty collected
+header-ends p [] = blocks-stop header _ _ (stops-empty header _ refl)
+header-ends p (b ∷ bs) = blocks-stop header _ _ (stops-empty header _ refl)
+
+pub blocks-header :
+    (p : ℕ) (bs : List (List (List ℕ))) → All Closed bs → map bytesOf (blocksFrom header (linesAt p (apart bs ++ [] ∷ []))) ≡ bs
+blocks-header p bs cs = ap (map bytesOf) (header-ends p bs) ∙ blocks-apart p bs cs
+
+-- a closed block of lines without LF
+pub record Block (b : List (List ℕ)) : Type 0 where
+  pub whole : unbroken b ≡ true
+  pub closed : Closed b
+
+all-closed : (bs : List (List (List ℕ))) → All Block bs → All Closed bs
+all-closed [] h = h
+all-closed (b ∷ bs) h = (h .0 .closed, all-closed bs (h .1))
+
+pub unbroken-append : (a b : List (List ℕ)) → unbroken a ≡ true → unbroken b ≡ true → unbroken (a ++ b) ≡ true
+unfolding unbroken
+unbroken-append [] b g h = h
+unbroken-append (l ∷ a) b g h =
+    and-both (absent lf l) (unbroken (a ++ b)) (and-left (absent lf l) (unbroken a) g)
+    (unbroken-append a b (and-right (absent lf l) (unbroken a) g) h)
+
+unbroken-apart : (bs : List (List (List ℕ))) → All Block bs → unbroken (apart bs) ≡ true
+unfolding unbroken apart absent
+unbroken-apart [] h = refl
+unbroken-apart (b ∷ bs) h = unbroken-append b (apart bs) (h .0 .whole) (unbroken-apart bs (h .1))
+
+-- a file of such blocks
+abbrev pub fileOf : List (List (List ℕ)) → List ℕ
+fileOf bs = lineEnded (ascii "WEBVTT" ∷ apart bs)
+
+signature-unbroken : (ls : List (List ℕ)) → unbroken ls ≡ true → unbroken (ascii "WEBVTT" ∷ ls) ≡ true
+unfolding unbroken absent
+signature-unbroken ls h = h
+
+pub blocks-file : (bs : List (List (List ℕ))) → All Block bs → map bytesOf (blocks (fileOf bs)) ≡ bs
+unfolding blocks behindSignature linesAt
+blocks-file bs h =
+    let lines = split-lineEnded (ascii "WEBVTT" ∷ apart bs) (signature-unbroken (apart bs) (unbroken-apart bs h)) in
+    ap (λ ls. map bytesOf (behindSignature (linesAt 0 ls))) lines
+    ∙ blocks-header 7 bs (all-closed bs h)
+
+pub signature-file : (bs : List (List (List ℕ))) → hasSignature (fileOf bs) ≡ true
+unfolding hasSignature startsWith seventh lineEnded
+signature-file bs = refl
+
+-- lines that are not empty and hold no LF and no `-->`
+pub record Quiet (ls : List (List ℕ)) : Type 0 where
+  pub whole : unbroken ls ≡ true
+  pub full : noneEmpty ls ≡ true
+  pub plain : noArrow ls ≡ true
+
+-- a token has no LF
+black-line : (t : List ℕ) → all black t ≡ true → absent lf t ≡ true
+unfolding all absent white
+black-line [] e = refl
+black-line (b ∷ t) e =
+    let rest = black-line t (and-right (black b) (all black t) e) in
+    by-test (eqb b lf)
+    (λ y. absurd (true≢false (ap white (sym (eqb-true b lf y)) ∙ not-left (white b) (all black t) e)))
+    (λ n. rw n rest)
+
+pub quiet-tokens : (ls : List (List ℕ)) → All (λ l. isToken l ≡ true) ls → noArrow ls ≡ true → Quiet ls
+unfolding isToken unbroken noneEmpty noArrow
+quiet-tokens [] h n = record { whole = refl; full = refl; plain = refl }
+quiet-tokens (l ∷ ls) h n =
+    let rest = quiet-tokens ls (h .1) (and-right (not (holdsArrow l)) (noArrow ls) n) in
+    record {
+      whole = and-both (absent lf l) (unbroken ls) (black-line l (and-right (not (isEmpty l)) (all black l) (h .0))) (rest .whole);
+      full = and-both (not (isEmpty l)) (noneEmpty ls) (and-left (not (isEmpty l)) (all black l) (h .0)) (rest .full);
+      plain = n;
+    }
+
+-- what holds no `-->` holds none at its start and none at its end
+starts-front : (p l s : List ℕ) → startsWith p (l ++ s) ≡ false → startsWith p l ≡ false
+unfolding startsWith
+starts-front [] l s e = e
+starts-front (c ∷ p) [] s e = refl
+starts-front (c ∷ p) (b ∷ l) s e =
+    by-test (eqb b c) (λ y. let f : startsWith p (l ++ s) ≡ false = rw y at e in rw y (starts-front p l s f)) (λ n. rw n)
+
+arrow-front : (l s : List ℕ) → holdsArrow (l ++ s) ≡ false → holdsArrow l ≡ false
+unfolding holdsArrow
+arrow-front [] s e = refl
+arrow-front (b ∷ l) s e =
+    let here = startsWith (ascii "-->") (b ∷ (l ++ s)) in
+    rw (starts-front (ascii "-->") (b ∷ l) s (or-first here (holdsArrow (l ++ s)) e))
+    (arrow-front l s (or-second here (holdsArrow (l ++ s)) e))
+
+arrow-back : (l s : List ℕ) → holdsArrow (l ++ s) ≡ false → holdsArrow s ≡ false
+unfolding holdsArrow
+arrow-back [] s e = e
+arrow-back (b ∷ l) s e = arrow-back l s (or-second (startsWith (ascii "-->") (b ∷ (l ++ s))) (holdsArrow (l ++ s)) e)
+
+no-arrow-join : (l : List ℕ) (ls : List (List ℕ)) → holdsArrow (join (l ∷ ls)) ≡ false → noArrow (l ∷ ls) ≡ true
+unfolding join endedLines noArrow
+no-arrow-join l [] e = rw (arrow-front l [] e)
+no-arrow-join l (m ∷ ms) e =
+    let rest = m ++ endedLines ms in
+    rw (arrow-front l (lf ∷ rest) e) (no-arrow-join m ms (arrow-back (lf ∷ []) rest (arrow-back l (lf ∷ rest) e)))
+
+pub quiet-split : (text : List ℕ) → unbrokenText text ≡ true → Quiet (split text)
+unfolding unbrokenText
+quiet-split text e =
+    let t = splits text in
+    let a = not-true (holdsArrow text) (and-right (noneEmpty (split text)) (not (holdsArrow text)) e) in
+    record {
+      whole = rw (t .is) (t .whole);
+      full = and-left (noneEmpty (split text)) (not (holdsArrow text)) e;
+      plain = rw (t .is) (no-arrow-join (t .first) (t .rest) (rw (t .joined) a));
+    }
+
+pub quiet-linesOf : (text : List ℕ) → isEmpty text || unbrokenText text ≡ true → Quiet (linesOf text)
+unfolding linesOf unbroken noneEmpty noArrow
+quiet-linesOf text e =
+    by-test (isEmpty text)
+    (λ y. rw y (record { whole = refl; full = refl; plain = refl }))
+    (λ n. let f : unbrokenText text ≡ true = rw n at e in rw n (quiet-split text f))
+
+-- an empty identifier gives no line, another gives one
+lines-none : (x : List ℕ) → isEmpty x ≡ true → linesOf x ≡ []
+unfolding linesOf
+lines-none x y = rw y
+
+lines-one : (x : List ℕ) → absent lf x ≡ true → isEmpty x ≡ false → linesOf x ≡ x ∷ []
+unfolding linesOf
+lines-one x a n = rw n (split-last x a)
+
+-- a line before quiet ones: a timing line, or any line
+arrow-full : (t : List ℕ) → holdsArrow t ≡ true → isEmpty t ≡ false
+unfolding holdsArrow isEmpty
+arrow-full [] e = sym e
+arrow-full (b ∷ t) e = refl
+
+timing-block : (t : List ℕ) (ls : List (List ℕ)) → absent lf t ≡ true → holdsArrow t ≡ true → Quiet ls → Block (t ∷ ls)
+unfolding unbroken noneEmpty timed
+timing-block t ls w a q =
+    record {
+      whole = and-both (absent lf t) (unbroken ls) w (q .whole);
+      closed = record { full = rw (arrow-full t a) (q .full); once = rw a (q .plain) };
+    }
+
+from-second : (ls : List (List ℕ)) → noArrow ls ≡ true → fromSecond ls ≡ true
+unfolding fromSecond noArrow
+from-second [] e = refl
+from-second (m ∷ ms) e = and-right (not (holdsArrow m)) (noArrow ms) e
+
+module _ (l : List ℕ) (w : absent lf l ≡ true) (f : isEmpty l ≡ false) (a : holdsArrow l ≡ false) where
+  second-block : (t : List ℕ) (ls : List (List ℕ)) → absent lf t ≡ true → holdsArrow t ≡ true → Quiet ls → Block (l ∷ t ∷ ls)
+  unfolding unbroken noneEmpty timed fromSecond
+  second-block t ls v b q =
+      record {
+        whole = and-both (absent lf l) (unbroken (t ∷ ls)) w (timing-block t ls v b q .whole);
+        closed = record { full = rw f (timing-block t ls v b q .closed .full); once = rw a (q .plain) };
+      }
+
+  word-block : (ls : List (List ℕ)) → Quiet ls → Block (l ∷ ls)
+  unfolding unbroken noneEmpty timed
+  word-block ls q =
+      record {
+        whole = and-both (absent lf l) (unbroken ls) w (q .whole);
+        closed = record { full = rw f (q .full); once = rw a (from-second ls (q .plain)) };
+      }
+
+-- an identifier's test says that it has no LF
+pub absent-has : (c : ℕ) (s : List ℕ) → not (has c s) ≡ true → absent c s ≡ true
+unfolding has all absent
+absent-has c [] e = refl
+absent-has c (b ∷ s) e = by-test (eqb b c) (λ y. absurd (false≢true (rw y at e))) (λ n. rw n (absent-has c s (rw n at e)))
+
+-- the blocks of a cue, a style and a region
+pub cue-block :
+    (id t text : List ℕ)
+    → absent lf id ≡ true
+    → holdsArrow id ≡ false
+    → absent lf t ≡ true
+    → holdsArrow t ≡ true
+    → isEmpty text || unbrokenText text ≡ true
+    → Block (linesOf id ++ t ∷ linesOf text)
+cue-block id t text w a v b e =
+    by-test (isEmpty id)
+    (λ y. rw (lines-none id y) (timing-block t (linesOf text) v b (quiet-linesOf text e)))
+    (λ n. rw (lines-one id w n) (second-block id w n a t (linesOf text) v b (quiet-linesOf text e)))
+
+pub style-block : (text : List ℕ) → unbrokenText text ≡ true → Block (styleLines text)
+unfolding styleLines absent isEmpty holdsArrow startsWith
+style-block text e = word-block (ascii "STYLE") refl refl refl (split text) (quiet-split text e)
+
+pub region-block : (ls : List (List ℕ)) → Quiet ls → Block (ascii "REGION" ∷ ls)
+unfolding absent isEmpty holdsArrow startsWith
+region-block ls q = word-block (ascii "REGION") refl refl refl ls q
+
+-- lines that follow each other are one part, and those of a text are the text
+joined-lines : (p : ℕ) (l : List ℕ) (ls : List (List ℕ)) → joined (linesAt p (l ∷ ls)) ≡ record { place = p; bytes = join (l ∷ ls) }
+unfolding joined linesAt bytesOf
+joined-lines p l ls = rw (bytes-lines (p + suc (length l)) ls)
+
+joined-split : (p : ℕ) (text : List ℕ) → joined (linesAt p (split text)) ≡ record { place = p; bytes = text }
+joined-split p text =
+    let t = splits text in
+    rw (t .is) (joined-lines p (t .first) (t .rest) ∙ rw (t .joined))
+
+empty-is : (x : List ℕ) → isEmpty x ≡ true → [] ≡ x
+unfolding isEmpty
+empty-is [] e = refl
+empty-is (b ∷ x) e = absurd (false≢true e)
+
+pub joined-linesOf : (p : ℕ) (text : List ℕ) → joined (linesAt p (linesOf text)) .bytes ≡ text
+unfolding linesOf linesAt joined
+joined-linesOf p text =
+    by-test (isEmpty text)
+    (λ y. rw y (empty-is text y))
+    (λ n. rw n (ap (λ q. q .bytes) (joined-split p text)))
+
+-- a block whose first line is its timing line, one whose second line is, and one that has none
+timing-first :
+    (seen : Bool) (l : Part) (ls : List Part) → holdsArrow (l .bytes) ≡ true → meaning seen (l ∷ ls) ≡ cueOf nowhere ls (timingLine l)
+unfolding meaning
+timing-first seen l [] a = rw a
+timing-first seen l (m ∷ ms) a = rw a
+
+module _ (seen : Bool) (l m : Part) (ls : List Part) (a : holdsArrow (l .bytes) ≡ false) where
+  timing-second : holdsArrow (m .bytes) ≡ true → meaning seen (l ∷ m ∷ ls) ≡ cueOf l ls (timingLine m)
+  unfolding meaning
+  timing-second b = rw (a, b)
+
+  timing-none : holdsArrow (m .bytes) ≡ false → meaning seen (l ∷ m ∷ ls) ≡ definition seen l (m ∷ ls)
+  unfolding meaning
+  timing-none b = rw (a, b)
+
+-- the cue of a timing line t with an identifier and a text
+pub record CueOf (id t text : List ℕ) (i : Item) : Type 0 where
+  pub name : Part
+  pub line : Part
+  pub rest : List Part
+  pub is : i ≡ cueOf name rest (timingLine line)
+  pub named : name .bytes ≡ id
+  pub timed : line .bytes ≡ t
+  pub says : joined rest .bytes ≡ text
+
+found :
+    {id t text : List ℕ} {i : Item} (q : ℕ) (name line : Part)
+    → name .bytes ≡ id
+    → line .bytes ≡ t
+    → i ≡ cueOf name (linesAt q (linesOf text)) (timingLine line)
+    → CueOf id t text i
+found {text = text} q name line n t e =
+    record { name = name; line = line; rest = linesAt q (linesOf text); is = e; named = n; timed = t; says = joined-linesOf q text }
+
+pub cue-means :
+    (seen : Bool) (p : ℕ) (id t text : List ℕ)
+    → absent lf id ≡ true
+    → holdsArrow id ≡ false
+    → holdsArrow t ≡ true
+    → CueOf id t text (meaning seen (linesAt p (linesOf id ++ t ∷ linesOf text)))
+unfolding linesAt
+cue-means seen p id t text w a b =
+    by-test (isEmpty id)
+    (λ y. let line : Part = record { place = p; bytes = t } in
+    let q = p + suc (length t) in
+    rw (lines-none id y) (found q nowhere line (empty-is id y) refl (timing-first seen line (linesAt q (linesOf text)) b)))
+    (λ n. let name : Part = record { place = p; bytes = id } in
+    let line : Part = record { place = p + suc (length id); bytes = t } in
+    let q = p + suc (length id) + suc (length t) in
+    rw (lines-one id w n) (found q name line refl refl (timing-second seen name line (linesAt q (linesOf text)) a b)))
+
+-- a definition: a word without `-->`, and quiet lines
+defines :
+    (seen : Bool) (p : ℕ) (word l : List ℕ) (ls : List (List ℕ))
+    → holdsArrow word ≡ false
+    → noArrow (l ∷ ls) ≡ true
+    → meaning seen (linesAt p (word ∷ l ∷ ls))
+    ≡ definition seen (record { place = p; bytes = word }) (linesAt (p + suc (length word)) (l ∷ ls))
+unfolding linesAt noArrow
+defines seen p word l ls a n =
+    timing-none seen (record { place = p; bytes = word }) (record { place = p + suc (length word); bytes = l })
+    (linesAt (p + suc (length word) + suc (length l)) ls) a (not-left (holdsArrow l) (noArrow ls) n)
+
+defines-style : (p : ℕ) (ls : List Part) → definition false (record { place = p; bytes = ascii "STYLE" }) ls ≡ style (joined ls)
+unfolding definition isWord startsWith all
+defines-style p ls = refl
+
+defines-region :
+    (p : ℕ) (ls : List Part) → definition false (record { place = p; bytes = ascii "REGION" }) ls ≡ regionOf (regionSettings (joined ls))
+unfolding definition isWord startsWith all
+defines-region p ls = refl
+
+style-arrow : holdsArrow (ascii "STYLE") ≡ false
+unfolding holdsArrow startsWith
+style-arrow = refl
+
+region-arrow : holdsArrow (ascii "REGION") ≡ false
+unfolding holdsArrow startsWith
+region-arrow = refl
+
+pub style-means :
+    (p : ℕ) (text : List ℕ)
+    → unbrokenText text ≡ true
+    → meaning false (linesAt p (styleLines text)) ≡ style (record { place = p + 6; bytes = text })
+unfolding styleLines
+style-means p text e =
+    let t = splits text in
+    let plain : noArrow (t .first ∷ t .rest) ≡ true = rw (t .is) at (quiet-split text e .plain) in
+    rw (t .is) (defines false p (ascii "STYLE") (t .first) (t .rest) style-arrow plain)
+    ∙ defines-style p (linesAt (p + 6) (t .first ∷ t .rest))
+    ∙ ap style (rw (t .is) at (joined-split (p + 6) text))
+
+pub region-means :
+    (p : ℕ) (l : List ℕ) (ls : List (List ℕ))
+    → noArrow (l ∷ ls) ≡ true
+    → meaning false (linesAt p (ascii "REGION" ∷ l ∷ ls)) ≡ regionOf (regionSettings (record { place = p + 7; bytes = join (l ∷ ls) }))
+region-means p l ls n =
+    defines false p (ascii "REGION") l ls region-arrow n
+    ∙ defines-region p (linesAt (p + 7) (l ∷ ls))
+    ∙ ap (λ q. regionOf (regionSettings q)) (joined-lines (p + 7) l ls)

@@ -1,0 +1,1 @@
+// Writing and then reading gives the same lists. Theorems only.
