@@ -1,7 +1,7 @@
 -- The code's changes to a region are the definition's settings.
 use Prim.Native.Nat.{ℕ}
 use mathlib.Core.Path.{_≡_, refl}
-use mathlib.Core.Bool.{_||_}
+use mathlib.Core.Bool.{true, false, _||_}
 use mathlib.Core.List.{List, [], _∷_}
 use mathlib.Core.Option.{Option, none, some}
 use lib.Dec.{ltb}
@@ -19,7 +19,7 @@ use Rattle.regions.specs.declared.PointRead.{PointRead}
 use Rattle.regions.specs.declared.PointRead.the-variants as PointRead
 use Rattle.regions.specs.declared.RegionChange.{RegionChange}
 use Rattle.regions.specs.declared.RegionChange.the-variants as RegionChange
-use Rattle.regions.specs.Changes.{regionNameIs, pointIs, widthChange, linesChange, anchorChange, viewportChange, namedChange, changeOf, applied, isOver, stepIs, foldIs, takenIs}
+use Rattle.regions.specs.Changes.{regionNameIs, pointIs, widthChange, linesChange, anchorChange, namedChange, changeOf, applied, isOver, stepIs, foldIs, takenIs}
 
 abbrev pub pointFrom : Percentage → Percentage → PointRead
 pointFrom Percentage.Bad y = PointRead.Bad
@@ -53,12 +53,12 @@ lines-agree (some n) r =
     (λ y. rw y (record { same = refl; over = refl }))
     (λ z. rw z (record { same = refl; over = refl }))
 
-anchor-agrees : (o : Option Point) (r : RegionValues) → Agrees (anchorChange (pointIs o)) r (takenRegion (setAnchor o r))
+anchor-agrees : (o : Option Point) (r : RegionValues) → Agrees (anchorChange (pointIs o) false) r (takenRegion (setAnchor o r))
 unfolding setAnchor
 anchor-agrees none r = unchanged r
 anchor-agrees (some p) r = record { same = refl; over = refl }
 
-viewport-agrees : (o : Option Point) (r : RegionValues) → Agrees (viewportChange (pointIs o)) r (takenRegion (setViewport o r))
+viewport-agrees : (o : Option Point) (r : RegionValues) → Agrees (anchorChange (pointIs o) true) r (takenRegion (setViewport o r))
 unfolding setViewport
 viewport-agrees none r = unchanged r
 viewport-agrees (some p) r = record { same = refl; over = refl }

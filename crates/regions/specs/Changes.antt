@@ -46,13 +46,10 @@ linesChange LineCount.Bad = RegionChange.Nothing
 linesChange LineCount.Over = RegionChange.Over
 linesChange (LineCount.Good n) = RegionChange.Lines n
 
-abbrev pub anchorChange : PointRead → RegionChange
-anchorChange PointRead.Bad = RegionChange.Nothing
-anchorChange (PointRead.Good p) = RegionChange.Anchor p
-
-abbrev pub viewportChange : PointRead → RegionChange
-viewportChange PointRead.Bad = RegionChange.Nothing
-viewportChange (PointRead.Good p) = RegionChange.Viewport p
+-- an anchor of the viewport, or of the region
+abbrev pub anchorChange : PointRead → Bool → RegionChange
+anchorChange PointRead.Bad viewport = RegionChange.Nothing
+anchorChange (PointRead.Good p) viewport = cond viewport (RegionChange.Viewport p) (RegionChange.Anchor p)
 
 abbrev pub scrollChange : List ℕ → RegionChange
 scrollChange x = cond (same x (ascii "up")) RegionChange.Scroll RegionChange.Nothing
@@ -61,8 +58,8 @@ abbrev pub namedChange : RegionName → Part → RegionChange
 namedChange RegionName.Id x = RegionChange.Id (spanIs x)
 namedChange RegionName.Width x = widthChange (percentageIs (percentage (x .bytes)))
 namedChange RegionName.Lines x = linesChange (lineCountIs (lineCount (x .bytes)))
-namedChange RegionName.Anchor x = anchorChange (pointIs (point (x .bytes)))
-namedChange RegionName.Viewport x = viewportChange (pointIs (point (x .bytes)))
+namedChange RegionName.Anchor x = anchorChange (pointIs (point (x .bytes))) false
+namedChange RegionName.Viewport x = anchorChange (pointIs (point (x .bytes))) true
 namedChange RegionName.Scroll x = scrollChange (x .bytes)
 namedChange RegionName.Other x = RegionChange.Nothing
 

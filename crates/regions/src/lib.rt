@@ -11,12 +11,12 @@ use values::tokens::Token;
 ghost use mathlib.Core.Path.{_≡_};
 ghost use mathlib.Core.Bool.{false};
 ghost use Prim.Native.Nat.{_≤_};
-ghost use lib.ListN.{length, drop};
+ghost use lib.ListN.{length};
 ghost use Rattle.format.specs.Numbers.{percentage, lineCount};
 ghost use Rattle.format.specs.RegionSettings.{RegionValues, regionIs, regionSetting, point, regionSettings};
 ghost use Rattle.values.specs.Numbers.{percentageIs, lineCountIs};
 ghost use Rattle.values.specs.Tokens.{tokenFrom, partOf};
-ghost use Rattle.regions.specs.Changes.{regionNameIs, pointIs, widthChange, linesChange, anchorChange, viewportChange, scrollChange, namedChange, changeOf, applied, isOver, stepIs, takenIs};
+ghost use Rattle.regions.specs.Changes.{regionNameIs, pointIs, widthChange, linesChange, anchorChange, scrollChange, namedChange, changeOf, applied, isOver, stepIs, takenIs};
 
 pub enum RegionName {
     Id,
@@ -108,22 +108,18 @@ fn lines_change(value: &[u8]) -> RegionChange
     }
 }
 
-fn anchor_change(value: &[u8]) -> RegionChange
-    ensures { λ r. ⌜ r ≡ anchorChange (pointIs (point (now (value .entry)))) ⌝ }
+// An anchor, of the region or of the viewport.
+fn anchor_change(value: &[u8], viewport: bool) -> RegionChange
+    ensures { λ r. ⌜ r ≡ anchorChange (pointIs (point (now (value .entry)))) viewport ⌝ }
 {
-    match read_point(value) {
-        PointRead::Bad => RegionChange::Nothing,
-        PointRead::Good(p) => RegionChange::Anchor(p),
+    let read = read_point(value);
+    let PointRead::Good(p) = read else {
+        return RegionChange::Nothing;
+    };
+    if viewport {
+        return RegionChange::Viewport(p);
     }
-}
-
-fn viewport_change(value: &[u8]) -> RegionChange
-    ensures { λ r. ⌜ r ≡ viewportChange (pointIs (point (now (value .entry)))) ⌝ }
-{
-    match read_point(value) {
-        PointRead::Bad => RegionChange::Nothing,
-        PointRead::Good(p) => RegionChange::Viewport(p),
-    }
+    RegionChange::Anchor(p)
 }
 
 fn scroll_change(value: &[u8]) -> RegionChange
@@ -145,8 +141,8 @@ fn named_change(name: RegionName, s: &[u8], from: usize) -> RegionChange
         RegionName::Id => RegionChange::Id(values::tokens::span(from, s.len())),
         RegionName::Width => width_change(value),
         RegionName::Lines => lines_change(value),
-        RegionName::Anchor => anchor_change(value),
-        RegionName::Viewport => viewport_change(value),
+        RegionName::Anchor => anchor_change(value, false),
+        RegionName::Viewport => anchor_change(value, true),
         RegionName::Scroll => scroll_change(value),
         RegionName::Other => RegionChange::Nothing,
     }

@@ -1,6 +1,6 @@
 -- The alignment behind a comma: what its name means for a line and for a position is what `format` says of each.
 use Prim.Native.Nat.{ℕ}
-use mathlib.Core.Path.{_≡_, refl}
+use mathlib.Core.Path.{_≡_}
 use mathlib.Core.Bool.{false}
 use mathlib.Core.List.{List}
 use Rattle.format.specs.Bytes.{ascii, comma}

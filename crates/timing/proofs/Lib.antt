@@ -1,3 +1,4 @@
 -- Laws that the functions' proofs cite.
 mod LineLaws
 mod SettingLaws
+pub mod AlignLaws

@@ -16,10 +16,8 @@ use Rattle.laws.proofs.Tests.{by-test, or-true}
 use Rattle.laws.proofs.Runs.{RunAt}
 use Rattle.values.specs.Times.{stampIs}
 use Rattle.values.specs.Tokens.{tokenFrom}
-use Rattle.values.specs.declared.times.Stamp.the-variants as Stamp
 use Rattle.values.proofs.StepLaws.{Steady, steady-then, steady-expect, steady-past, steady-timestamp, left-at, StampRead}
 use Rattle.timing.specs.declared.timing_line.ArrowEnd.the-variants as ArrowEnd
-use Rattle.timing.specs.declared.timing_line.TimingLine.the-variants as TimingLine
 use Rattle.timing.specs.TimingLines.{arrowIs, lineFrom, timingLineIs}
 
 arrow-few : (x : List ℕ) → length x < 3 → arrow x ≡ failed

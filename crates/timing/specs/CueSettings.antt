@@ -5,17 +5,21 @@ use mathlib.Core.List.{List, [], _∷_}
 use mathlib.Core.Option.{Option, none, some}
 use lib.Dec.{eqb}
 use Rattle.format.specs.Bytes.{ascii, comma, percent}
-use Rattle.format.specs.Texts.{Part, same, isEmpty, endsWith, beforeFirst}
+use Rattle.format.specs.Texts.{Part, same, isEmpty, endsWith, beforeFirst, behindFirst, has}
 use Rattle.format.specs.Numbers.{percentage, lineNumber}
 use Rattle.format.specs.Tokens.{nameOf, valueOf}
 use Rattle.format.specs.CueSettings.{Taken, settingsIs, spanIs, isHorizontal, noSpan, direction, alignment, lineAlign, positionAlign}
 use Rattle.format.specs.declared.settings.Settings.{Settings}
 use Rattle.format.specs.declared.settings.LineAlign.{LineAlign}
+use Rattle.format.specs.declared.settings.LineAlign.the-variants as LineAlign
 use Rattle.format.specs.declared.settings.PositionAlign.{PositionAlign}
+use Rattle.format.specs.declared.settings.PositionAlign.the-variants as PositionAlign
 use Rattle.format.specs.declared.settings.Line.the-variants as Line
 use Rattle.format.specs.declared.settings.Position.the-variants as Position
 use Rattle.timing.specs.declared.cue_settings.CueName.{CueName}
 use Rattle.timing.specs.declared.cue_settings.CueName.the-variants as CueName
+use Rattle.timing.specs.declared.cue_settings.AlignName.{AlignName}
+use Rattle.timing.specs.declared.cue_settings.AlignName.the-variants as AlignName
 use Rattle.timing.specs.declared.cue_settings.LineAligned.{LineAligned}
 use Rattle.timing.specs.declared.cue_settings.LineAligned.the-variants as LineAligned
 use Rattle.timing.specs.declared.cue_settings.PositionAligned.{PositionAligned}
@@ -36,6 +40,36 @@ cueNameIs n =
     (cond (same n (ascii "line")) CueName.Line
     (cond (same n (ascii "position")) CueName.Position
     (cond (same n (ascii "size")) CueName.Size (cond (same n (ascii "align")) CueName.Align CueName.Other)))))
+
+-- the alignment behind a value's comma
+abbrev pub alignWordIs : List ℕ → AlignName
+alignWordIs n =
+    cond (same n (ascii "start")) AlignName.Start
+    (cond (same n (ascii "center")) AlignName.Center
+    (cond (same n (ascii "end")) AlignName.End
+    (cond (same n (ascii "line-left")) AlignName.LineLeft (cond (same n (ascii "line-right")) AlignName.LineRight AlignName.Other))))
+
+abbrev pub alignNameIs : List ℕ → AlignName
+alignNameIs x = cond (has comma x) (alignWordIs (behindFirst comma x)) AlignName.Absent
+
+-- what a name means for a line and for a position, a being the alignment that is set
+abbrev pub lineNamed : AlignName → LineAlign → LineAligned
+lineNamed AlignName.Absent a = LineAligned.Good a
+lineNamed AlignName.Start a = LineAligned.Good LineAlign.Start
+lineNamed AlignName.Center a = LineAligned.Good LineAlign.Center
+lineNamed AlignName.End a = LineAligned.Good LineAlign.End
+lineNamed AlignName.LineLeft a = LineAligned.Bad
+lineNamed AlignName.LineRight a = LineAligned.Bad
+lineNamed AlignName.Other a = LineAligned.Bad
+
+abbrev pub positionNamed : AlignName → PositionAlign → PositionAligned
+positionNamed AlignName.Absent a = PositionAligned.Good a
+positionNamed AlignName.Start a = PositionAligned.Bad
+positionNamed AlignName.Center a = PositionAligned.Good PositionAlign.Center
+positionNamed AlignName.End a = PositionAligned.Bad
+positionNamed AlignName.LineLeft a = PositionAligned.Good PositionAlign.LineLeft
+positionNamed AlignName.LineRight a = PositionAligned.Good PositionAlign.LineRight
+positionNamed AlignName.Other a = PositionAligned.Bad
 
 abbrev pub lineAlignedIs : Option LineAlign → LineAligned
 lineAlignedIs none = LineAligned.Bad

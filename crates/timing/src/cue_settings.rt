@@ -18,13 +18,13 @@ use values::tokens::Token;
 ghost use mathlib.Core.Path.{_≡_};
 ghost use mathlib.Core.Bool.{_||_};
 ghost use Prim.Native.Nat.{_-_, _≤_};
-ghost use lib.ListN.{length, take, drop};
+ghost use lib.ListN.{length, drop};
 ghost use Rattle.format.specs.CueSettings.{direction, alignment, lineAlign, positionAlign, cueSettings};
 ghost use Rattle.format.specs.Bytes.{percent};
 ghost use Rattle.format.specs.Texts.{endsWith};
 ghost use Rattle.format.specs.Numbers.{percentage, lineNumber};
 ghost use Rattle.values.specs.Numbers.{percentageIs, lineNumberIs};
-ghost use Rattle.timing.specs.CueSettings.{cueNameIs, lineAlignedIs, positionAlignedIs, linePercentageChange, lineNumberChange, lineChange, positionChange, sizeChange, namedChange, changeOf, applied, isOver, stepIs, takenIs};
+ghost use Rattle.timing.specs.CueSettings.{cueNameIs, alignWordIs, alignNameIs, lineAlignedIs, positionAlignedIs, linePercentageChange, lineNumberChange, lineChange, positionChange, sizeChange, namedChange, changeOf, applied, isOver, stepIs, takenIs};
 
 pub enum CueName {
     Region,
@@ -93,6 +93,49 @@ fn align_of(value: &[u8], current: Align) -> Align
     current
 }
 
+// The alignment behind a value's comma, by its name.
+pub enum AlignName {
+    // There is no comma.
+    Absent,
+    Start,
+    Center,
+    End,
+    LineLeft,
+    LineRight,
+    Other,
+}
+
+fn align_word(name: &[u8]) -> AlignName
+    ensures { λ r. ⌜ r ≡ alignWordIs (now (name .entry)) ⌝ }
+{
+    if same_bytes(name, b"start") {
+        return AlignName::Start;
+    }
+    if same_bytes(name, b"center") {
+        return AlignName::Center;
+    }
+    if same_bytes(name, b"end") {
+        return AlignName::End;
+    }
+    if same_bytes(name, b"line-left") {
+        return AlignName::LineLeft;
+    }
+    if same_bytes(name, b"line-right") {
+        return AlignName::LineRight;
+    }
+    AlignName::Other
+}
+
+fn align_name(value: &[u8]) -> AlignName
+    ensures { λ r. ⌜ r ≡ alignNameIs (now (value .entry)) ⌝ }
+{
+    let comma = values::bytes::past(value, 0, Kind::Until(b','));
+    if comma == value.len() {
+        return AlignName::Absent;
+    }
+    align_word(&value[comma + 1..])
+}
+
 pub enum LineAligned {
     Bad,
     Good(LineAlign),
@@ -101,21 +144,15 @@ pub enum LineAligned {
 fn line_align(value: &[u8], current: LineAlign) -> LineAligned
     ensures { λ r. ⌜ r ≡ lineAlignedIs (lineAlign (now (value .entry)) current) ⌝ }
 {
-    let comma = values::bytes::past(value, 0, Kind::Until(b','));
-    if comma == value.len() {
-        return LineAligned::Good(current);
+    match align_name(value) {
+        AlignName::Absent => LineAligned::Good(current),
+        AlignName::Start => LineAligned::Good(LineAlign::Start),
+        AlignName::Center => LineAligned::Good(LineAlign::Center),
+        AlignName::End => LineAligned::Good(LineAlign::End),
+        AlignName::LineLeft => LineAligned::Bad,
+        AlignName::LineRight => LineAligned::Bad,
+        AlignName::Other => LineAligned::Bad,
     }
-    let name = &value[comma + 1..];
-    if same_bytes(name, b"start") {
-        return LineAligned::Good(LineAlign::Start);
-    }
-    if same_bytes(name, b"center") {
-        return LineAligned::Good(LineAlign::Center);
-    }
-    if same_bytes(name, b"end") {
-        return LineAligned::Good(LineAlign::End);
-    }
-    LineAligned::Bad
 }
 
 pub enum PositionAligned {
@@ -126,21 +163,15 @@ pub enum PositionAligned {
 fn position_align(value: &[u8], current: PositionAlign) -> PositionAligned
     ensures { λ r. ⌜ r ≡ positionAlignedIs (positionAlign (now (value .entry)) current) ⌝ }
 {
-    let comma = values::bytes::past(value, 0, Kind::Until(b','));
-    if comma == value.len() {
-        return PositionAligned::Good(current);
+    match align_name(value) {
+        AlignName::Absent => PositionAligned::Good(current),
+        AlignName::Start => PositionAligned::Bad,
+        AlignName::Center => PositionAligned::Good(PositionAlign::Center),
+        AlignName::End => PositionAligned::Bad,
+        AlignName::LineLeft => PositionAligned::Good(PositionAlign::LineLeft),
+        AlignName::LineRight => PositionAligned::Good(PositionAlign::LineRight),
+        AlignName::Other => PositionAligned::Bad,
     }
-    let name = &value[comma + 1..];
-    if same_bytes(name, b"line-left") {
-        return PositionAligned::Good(PositionAlign::LineLeft);
-    }
-    if same_bytes(name, b"center") {
-        return PositionAligned::Good(PositionAlign::Center);
-    }
-    if same_bytes(name, b"line-right") {
-        return PositionAligned::Good(PositionAlign::LineRight);
-    }
-    PositionAligned::Bad
 }
 
 // What a token changes.

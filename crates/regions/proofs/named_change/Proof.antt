@@ -43,8 +43,8 @@ anchor-change-requires c κs = search needs
 enum-told-5 : tie.Need-enum-told-5
 enum-told-5 c = search needs
 
-viewport-change-requires : tie.Need-viewport-change-requires
-viewport-change-requires c κs = search needs
+anchor-change-requires-2 : tie.Need-anchor-change-requires-2
+anchor-change-requires-2 c κs = search needs
 
 enum-told-6 : tie.Need-enum-told-6
 enum-told-6 c = search needs
@@ -78,7 +78,7 @@ returns-4 c =
 returns-5 : tie.Need-returns-5
 returns-5 c =
     let args = c .before .before .before .before .before .args in
-    rw (c .before .enum-told5 .given .1, c .viewport-change .ensures, rest-is (args .s .now) (args .from))
+    rw (c .before .enum-told5 .given .1, c .anchor-change2 .ensures, rest-is (args .s .now) (args .from))
 
 returns-6 : tie.Need-returns-6
 returns-6 c =
@@ -104,7 +104,7 @@ named-change-spec =
     enum-told-4
     anchor-change-requires
     enum-told-5
-    viewport-change-requires
+    anchor-change-requires-2
     enum-told-6
     scroll-change-requires
     enum-told-7
