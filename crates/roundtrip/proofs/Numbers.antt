@@ -41,7 +41,7 @@ unfolding isEmpty
 no-bytes [] e = refl
 no-bytes (b ∷ s) e = absurd (false≢true e)
 
-some-append : (s t : List ℕ) → isEmpty s ≡ false → isEmpty (s ++ t) ≡ false
+pub some-append : (s t : List ℕ) → isEmpty s ≡ false → isEmpty (s ++ t) ≡ false
 unfolding isEmpty
 some-append [] t e = absurd (true≢false e)
 some-append (b ∷ s) t e = refl
@@ -66,7 +66,7 @@ pastRun-over p [] t f e = pastRun-none p t e
 pastRun-over p (b ∷ s) t f e = rw (and-left (p b) (all p s) f, pastRun-over p s t (and-right (p b) (all p s) f) e)
 
 -- a text and one byte behind it
-endsWith-snoc : (c : ℕ) (s : List ℕ) → endsWith c (s ++ c ∷ []) ≡ true
+pub endsWith-snoc : (c : ℕ) (s : List ℕ) → endsWith c (s ++ c ∷ []) ≡ true
 unfolding endsWith
 endsWith-snoc c [] = eq-eqb c c refl
 endsWith-snoc c (b ∷ []) = eq-eqb c c refl
@@ -351,7 +351,7 @@ decimalOf-read whole (d ∷ ds) e f = rw (e, f)
 whole-some : (m : ℕ) → isEmpty (decimalIn 1 (m / 1_000_000)) ≡ false
 whole-some m = decimal-some 1 (m / 1_000_000) (omega arith) (omega arith)
 
-fraction-all : (m : ℕ) → all digit (withoutZeros (lastDigits 6 (m % 1_000_000))) ≡ true
+pub fraction-all : (m : ℕ) → all digit (withoutZeros (lastDigits 6 (m % 1_000_000))) ≡ true
 fraction-all m = withoutZeros-all digit (lastDigits 6 (m % 1_000_000)) (digits-all 6 (m % 1_000_000))
 
 pub decimal-read : (m : ℕ) → decimal (writtenDecimal m) ≡ some (decimalFor m)
@@ -480,7 +480,7 @@ unfolding writtenPercentage all numeral digit
 writtenPercentage-numeral m = all-append numeral (writtenDecimal m) (percent ∷ []) (writtenDecimal-numeral m) refl
 
 -- no byte besides stands in them: LF, comma, hyphen, `>`, NUL and the others
-numeral-other : (b c : ℕ) → numeral b ≡ true → numeral c ≡ false → eqb b c ≡ false
+pub numeral-other : (b c : ℕ) → numeral b ≡ true → numeral c ≡ false → eqb b c ≡ false
 numeral-other b c p n = ne-eqb b c (λ e. absurd (false≢true (sym n ∙ ap numeral (sym e) ∙ p)))
 
 pub numeral-absent : (c : ℕ) (s : List ℕ) → numeral c ≡ false → all numeral s ≡ true → absent c s ≡ true

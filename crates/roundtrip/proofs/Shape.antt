@@ -4,6 +4,7 @@ use Prim.Native.Nat.{ℕ, suc, _+_}
 use mathlib.Core.Path.{_≡_, refl, sym, ap, _∙_}
 use mathlib.Core.Bool.{Bool, true, false, cond, not, _&&_, _||_, false≢true, true≢false}
 use mathlib.Core.List.{List, [], _∷_, _++_, map, append-assoc, append-nil}
+use mathlib.Core.Option.{none}
 use native.Mathlib.Omega.{arith}
 use lib.Dec.{eqb}
 use lib.ListN.{length, length-append}
@@ -18,15 +19,15 @@ use Rattle.format.specs.TimingLines.{timingLine}
 use Rattle.format.specs.RegionSettings.{regionSettings}
 use Rattle.format.specs.Lists.{Item, style, cueOf, regionOf, isWord, definition, meaning}
 use Rattle.format.specs.Written.{afterSpaces, linesOf, styleLines, apart, lineEnded}
-use Rattle.format.specs.Writable.{noneEmpty, unbroken as unbrokenText}
+use Rattle.format.specs.Writable.{unbroken as unbrokenText, noneEmpty, firstFailing}
 use Rattle.laws.proofs.Tests.{and-left, and-right, and-both, and-false, or-first, or-second, by-test, absent}
-use Rattle.laws.proofs.Lines.{unbroken, split-line, split-last, splits}
 use Rattle.laws.proofs.Tokens.{inside as black}
+use Rattle.laws.proofs.Lines.{unbroken, split-line, split-last, splits}
 use Rattle.laws.proofs.Blocks.{blocks-stop, cut}
 use Rattle.laws.proofs.Standing.{All, bytes-lines}
 
 -- the first of two tests, where it is a refusal
-not-left : (a b : Bool) → not a && b ≡ true → a ≡ false
+pub not-left : (a b : Bool) → not a && b ≡ true → a ≡ false
 not-left a b e = not-true a (and-left (not a) b e)
 
 -- lines ended by LF, and the empty line behind the last of them
@@ -140,14 +141,14 @@ bytes-join p ls h = ap bytesOf (tokens-join p ls h) ∙ bytes-lines p ls
 
 -- a name, a byte that is not in it, and a value
 module _ (c : ℕ) (value : List ℕ) where
-  before-first : (name : List ℕ) → absent c name ≡ true → beforeFirst c (name ++ c ∷ value) ≡ name
+  pub before-first : (name : List ℕ) → absent c name ≡ true → beforeFirst c (name ++ c ∷ value) ≡ name
   unfolding beforeFirst run absent
   before-first [] a = rw (eq-eqb c c refl)
   before-first (b ∷ name) a =
       rw (not-left (eqb b c) (absent c name) a)
       (ap (λ r. b ∷ r) (before-first name (and-right (not (eqb b c)) (absent c name) a)))
 
-  behind-first : (name : List ℕ) → absent c name ≡ true → behindFirst c (name ++ c ∷ value) ≡ value
+  pub behind-first : (name : List ℕ) → absent c name ≡ true → behindFirst c (name ++ c ∷ value) ≡ value
   unfolding behindFirst absent
   behind-first [] a = rw (eq-eqb c c refl)
   behind-first (b ∷ name) a =
@@ -256,7 +257,7 @@ gap : (l : Part) (ls : List Part) → isEmpty (l .bytes) ≡ true → blocksFrom
 unfolding blocksFrom ended next stops collected begin
 gap l ls e = rw e
 
-lines-append : (p : ℕ) (a b : List (List ℕ)) → linesAt p (a ++ b) ≡ linesAt p a ++ linesAt (p + length (lineEnded a)) b
+pub lines-append : (p : ℕ) (a b : List (List ℕ)) → linesAt p (a ++ b) ≡ linesAt p a ++ linesAt (p + length (lineEnded a)) b
 unfolding linesAt lineEnded
 lines-append p [] b = let e : p + 0 ≡ p = omega arith in rw e
 lines-append p (l ∷ a) b =
@@ -351,7 +352,7 @@ pub record Quiet (ls : List (List ℕ)) : Type 0 where
   pub plain : noArrow ls ≡ true
 
 -- a token has no LF
-black-line : (t : List ℕ) → all black t ≡ true → absent lf t ≡ true
+pub black-line : (t : List ℕ) → all black t ≡ true → absent lf t ≡ true
 unfolding all absent white
 black-line [] e = refl
 black-line (b ∷ t) e =
@@ -500,7 +501,7 @@ joined-split p text =
     let t = splits text in
     rw (t .is) (joined-lines p (t .first) (t .rest) ∙ rw (t .joined))
 
-empty-is : (x : List ℕ) → isEmpty x ≡ true → [] ≡ x
+pub empty-is : (x : List ℕ) → isEmpty x ≡ true → [] ≡ x
 unfolding isEmpty
 empty-is [] e = refl
 empty-is (b ∷ x) e = absurd (false≢true e)
@@ -613,3 +614,10 @@ region-means p l ls n =
     defines false p (ascii "REGION") l ls region-arrow n
     ∙ defines-region p (linesAt (p + 7) (l ∷ ls))
     ∙ ap (λ q. regionOf (regionSettings q)) (joined-lines (p + 7) l ls)
+
+-- a row that no test refuses passes each of them
+pub none-fails : (n : ℕ) (ts : List Bool) → firstFailing n ts ≡ none → All (λ t. t ≡ true) ts
+unfolding firstFailing
+none-fails n [] e = tt
+none-fails n (true ∷ ts) e = (refl, none-fails (n + 1) ts e)
+none-fails n (false ∷ ts) e = let z : _≡_ {A = ℕ} 0 1 = cc in absurd (omega arith)

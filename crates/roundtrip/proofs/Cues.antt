@@ -1,0 +1,721 @@
+-- A cue's settings and its timing line as they are written: reading them gives the settings and the times back. What a writable row says is
+-- of that kind.
+use Prim.Native.Nat.{ℕ, zero, suc, _+_, _-_, _/_, _%_, _≤_, _<_}
+use mathlib.Core.Path.{_≡_, refl, sym, ap, _∙_}
+use mathlib.Core.Bool.{Bool, true, false, cond, not, _&&_, _||_, false≢true}
+use mathlib.Core.List.{List, [], _∷_, _++_, map, append-assoc, append-nil}
+use mathlib.Core.Option.{Option, none, some}
+use native.Mathlib.Omega.{arith}
+use lib.Dec.{eqb, leb, ltb}
+use lib.ListN.{length, getD}
+use borrow.Author.Tests.{ne-eqb, eqb-true, eq-eqb, ltb-true, leb-true, le-ltb, not-true}
+use Rattle.format.specs.Bytes.{ascii, white, lf, percent, comma, hyphen, fullStop, colon, digit}
+use Rattle.format.specs.Texts.{Part, nowhere, isEmpty, same, all, run, endsWith, startsWith, pastRun, beforeFirst, has}
+use Rattle.format.specs.CueSettings.{CueSettings, Taken, taken, openingSettings, setRegion, direction, setVertical, setLine}
+use Rattle.format.specs.CueSettings.{lineAlign, linePercentage, lineCounted, lineSetting, setPosition, positionAlign, positionOf}
+use Rattle.format.specs.CueSettings.{positionSetting, setSize, sizeOf, setAlign, alignment, named, cueSetting, settingsFrom, cueSettings}
+use Rattle.format.specs.Written.{lastDigits, decimalIn, writtenTime, withoutZeros, fraction, writtenDecimal, writtenPercentage, setting}
+use Rattle.format.specs.Written.{writtenVertical, writtenLineAlign, writtenLineNumber, writtenLine, writtenPositionAlign, writtenPosition}
+use Rattle.format.specs.Written.{writtenSize, writtenAlign, writtenRegionName, writtenSettings, afterSpaces, writtenTiming, lineEnded}
+use Rattle.format.specs.Blocks.{linesAt, holdsArrow}
+use Rattle.format.specs.Rows.{word}
+use Rattle.format.specs.Parts.{bytesAt, cueTest1}
+use Rattle.format.specs.Writable.{unsignedZero, cueOfWords, regionOfWords, unbroken, cueTest2, cueTest3, cueTest4, is100, lineFits}
+use Rattle.format.specs.Writable.{positionFits, cueTest5, isIndex, lastOfItsName, regionAllowed, cueTest6, cueFails}
+use Rattle.format.specs.Writable.{regionTest1, regionTest2, regionTest3, regionTest4, regionFails}
+use Rattle.format.specs.RegionSettings.{lastNamed}
+use Rattle.format.specs.Times.{got, onGot, expect}
+use Rattle.format.specs.TimingLines.{arrow, arrowAndEnd, timings, Timing, withSettings, timingOf, timingLine}
+use Rattle.format.specs.Contents.{CueContents, RegionContents}
+use Rattle.format.specs.declared.settings.Direction.{Direction}
+use Rattle.format.specs.declared.settings.Direction.the-variants as Direction
+use Rattle.format.specs.declared.settings.Line.{Line}
+use Rattle.format.specs.declared.settings.Line.the-variants as Line
+use Rattle.format.specs.declared.settings.LinePlace.{LinePlace}
+use Rattle.format.specs.declared.settings.LineAlign.{LineAlign}
+use Rattle.format.specs.declared.settings.LineAlign.the-variants as LineAlign
+use Rattle.format.specs.declared.settings.Position.{Position}
+use Rattle.format.specs.declared.settings.Position.the-variants as Position
+use Rattle.format.specs.declared.settings.PositionPlace.{PositionPlace}
+use Rattle.format.specs.declared.settings.PositionAlign.{PositionAlign}
+use Rattle.format.specs.declared.settings.PositionAlign.the-variants as PositionAlign
+use Rattle.format.specs.declared.settings.Align.{Align}
+use Rattle.format.specs.declared.settings.Align.the-variants as Align
+use Rattle.laws.proofs.Tests.{and-left, and-right, and-both, and-false, or-true, by-test, absent, absent-append}
+use Rattle.laws.proofs.Tokens.{inside as black}
+use Rattle.laws.proofs.Standing as Standing
+use Rattle.laws.proofs.Standing.{All}
+use Rattle.roundtrip.proofs.Numbers.{all-append, some-append, run-over, endsWith-snoc, decimal-all, TimeRead, time-read, fraction-all}
+use Rattle.roundtrip.proofs.Numbers.{percentage-read, line-read, numeral, writtenTime-numeral, writtenDecimal-numeral}
+use Rattle.roundtrip.proofs.Numbers.{writtenPercentage-numeral, numeral-absent, numeral-unwhite, writtenTime-some, writtenDecimal-some}
+use Rattle.roundtrip.proofs.Numbers.{writtenPercentage-some, numeral-unskipped}
+use Rattle.roundtrip.proofs.Shape.{not-left, isToken, tokens-afterSpaces, behind-first, setting-name, setting-value, lines-append}
+use Rattle.roundtrip.proofs.Shape.{black-line, absent-has, none-fails}
+
+-- a text without a byte
+digits-absent : (c : ℕ) (s : List ℕ) → digit c ≡ false → all digit s ≡ true → absent c s ≡ true
+unfolding all absent
+digits-absent c [] n h = refl
+digits-absent c (b ∷ s) n h =
+    let other = ne-eqb b c (λ e. absurd (false≢true (sym n ∙ ap digit (sym e) ∙ and-left (digit b) (all digit s) h))) in
+    rw other (digits-absent c s n (and-right (digit b) (all digit s) h))
+
+fraction-absent : (c : ℕ) (ds : List ℕ) → digit c ≡ false → eqb fullStop c ≡ false → all digit ds ≡ true → absent c (fraction ds) ≡ true
+unfolding fraction absent
+fraction-absent c [] n e h = refl
+fraction-absent c (d ∷ ds) n e h = rw e (digits-absent c (d ∷ ds) n h)
+
+decimal-absent : (c m : ℕ) → digit c ≡ false → eqb fullStop c ≡ false → absent c (writtenDecimal m) ≡ true
+unfolding writtenDecimal
+decimal-absent c m n e =
+    let rest = withoutZeros (lastDigits 6 (m % 1_000_000)) in
+    let whole = decimalIn 1 (m / 1_000_000) in
+    absent-append c whole (fraction rest) (digits-absent c whole n (decimal-all 1 (m / 1_000_000)))
+    (fraction-absent c rest n e (fraction-all m))
+
+ends-absent : (c : ℕ) (s : List ℕ) → absent c s ≡ true → endsWith c s ≡ false
+unfolding endsWith absent
+ends-absent c [] a = refl
+ends-absent c (b ∷ []) a = not-left (eqb b c) true a
+ends-absent c (b ∷ (d ∷ s)) a = ends-absent c (d ∷ s) (and-right (not (eqb b c)) (absent c (d ∷ s)) a)
+
+all-absent : (c : ℕ) (s : List ℕ) → absent c s ≡ true → all (λ b. not (eqb b c)) s ≡ true
+unfolding all absent
+all-absent c [] a = refl
+all-absent c (b ∷ s) a =
+    and-both (not (eqb b c)) (all (λ b. not (eqb b c)) s) (and-left (not (eqb b c)) (absent c s) a)
+    (all-absent c s (and-right (not (eqb b c)) (absent c s) a))
+
+-- what stands before a comma, or where there is none
+before-tail : (c : ℕ) (s t : List ℕ) → absent c s ≡ true → beforeFirst c t ≡ [] → beforeFirst c (s ++ t) ≡ s
+unfolding beforeFirst
+before-tail c s t a e = run-over (λ b. not (eqb b c)) s t (all-absent c s a) e
+
+has-none : (c : ℕ) (s : List ℕ) → absent c s ≡ true → has c s ≡ false
+unfolding has
+has-none c s a = rw (all-absent c s a)
+
+has-behind : (c : ℕ) (s t : List ℕ) → has c (s ++ c ∷ t) ≡ true
+unfolding has all
+has-behind c [] t = rw (eq-eqb c c refl)
+has-behind c (b ∷ s) t = by-test (eqb b c) (λ y. rw y) (λ n. rw n (has-behind c s t))
+
+-- a line's number and a percentage: no comma, some bytes, no whitespace, and `%` at the end of a percentage alone
+percentage-absent : (m : ℕ) → absent comma (writtenPercentage m) ≡ true
+unfolding writtenPercentage absent digit
+percentage-absent m = absent-append comma (writtenDecimal m) (percent ∷ []) (decimal-absent comma m refl refl) refl
+
+abbrev minus : Bool → List ℕ
+minus negative = cond negative (hyphen ∷ []) []
+
+number-absent :
+    (c : ℕ) (negative : Bool) (m : ℕ)
+    → eqb hyphen c ≡ false
+    → digit c ≡ false
+    → eqb fullStop c ≡ false
+    → absent c (minus negative ++ writtenDecimal m) ≡ true
+unfolding absent
+number-absent c true m h n e = rw h (decimal-absent c m n e)
+number-absent c false m h n e = decimal-absent c m n e
+
+line-absent : (snap negative : Bool) (m : ℕ) → absent comma (writtenLineNumber snap negative m) ≡ true
+unfolding writtenLineNumber digit
+line-absent true negative m = number-absent comma negative m refl refl refl
+line-absent false negative m = percentage-absent m
+
+line-ends : (snap negative : Bool) (m : ℕ) → endsWith percent (writtenLineNumber snap negative m) ≡ not snap
+unfolding writtenLineNumber writtenPercentage digit
+line-ends true negative m = ends-absent percent _ (number-absent percent negative m refl refl refl)
+line-ends false negative m = endsWith-snoc percent (writtenDecimal m)
+
+-- the alignments behind them
+line-before : (s : List ℕ) (a : LineAlign) → absent comma s ≡ true → beforeFirst comma (s ++ writtenLineAlign a) ≡ s
+unfolding writtenLineAlign beforeFirst run
+line-before s LineAlign.Start h = before-tail comma s _ h refl
+line-before s LineAlign.Center h = before-tail comma s _ h refl
+line-before s LineAlign.End h = before-tail comma s _ h refl
+
+line-align :
+    (s : List ℕ) (a old : LineAlign)
+    → absent comma s ≡ true
+    → (a ≡ LineAlign.Start → old ≡ LineAlign.Start)
+    → lineAlign (s ++ writtenLineAlign a) old ≡ some a
+unfolding writtenLineAlign lineAlign same
+line-align s LineAlign.Start old h o = rw (append-nil s, has-none comma s h, o refl)
+line-align s LineAlign.Center old h o = rw (has-behind comma s (ascii "center"), behind-first comma (ascii "center") s h)
+line-align s LineAlign.End old h o = rw (has-behind comma s (ascii "end"), behind-first comma (ascii "end") s h)
+
+position-before : (s : List ℕ) (a : PositionAlign) → absent comma s ≡ true → beforeFirst comma (s ++ writtenPositionAlign a) ≡ s
+unfolding writtenPositionAlign beforeFirst run
+position-before s PositionAlign.Auto h = before-tail comma s _ h refl
+position-before s PositionAlign.LineLeft h = before-tail comma s _ h refl
+position-before s PositionAlign.Center h = before-tail comma s _ h refl
+position-before s PositionAlign.LineRight h = before-tail comma s _ h refl
+
+position-align :
+    (s : List ℕ) (a old : PositionAlign)
+    → absent comma s ≡ true
+    → (a ≡ PositionAlign.Auto → old ≡ PositionAlign.Auto)
+    → positionAlign (s ++ writtenPositionAlign a) old ≡ some a
+unfolding writtenPositionAlign positionAlign same
+position-align s PositionAlign.Auto old h o = rw (append-nil s, has-none comma s h, o refl)
+position-align s PositionAlign.LineLeft old h o = rw (has-behind comma s (ascii "line-left"), behind-first comma (ascii "line-left") s h)
+position-align s PositionAlign.Center old h o = rw (has-behind comma s (ascii "center"), behind-first comma (ascii "center") s h)
+position-align s PositionAlign.LineRight old h o = rw (has-behind comma s (ascii "line-right"), behind-first comma (ascii "line-right") s h)
+
+-- a token with a name and a value
+abbrev pub settingAt : ℕ → List ℕ → List ℕ → Part
+settingAt p name value = record { place = p; bytes = name ++ colon ∷ value }
+
+setting-read :
+    (p : ℕ) (name value : List ℕ) (c : CueSettings)
+    → absent colon name ≡ true
+    → isEmpty name ≡ false
+    → isEmpty value ≡ false
+    → cueSetting (settingAt p name value) c ≡ named name (record { place = p + suc (length name); bytes = value }) c
+unfolding cueSetting
+setting-read p name value c a n v =
+    let t = settingAt p name value in
+    rw (setting-name t name value a refl, setting-value t name value a refl, n, v)
+
+-- each setting as it is written, read where other settings have been read
+module _ (p : ℕ) (c : CueSettings) where
+  vertical-read :
+      (d : Direction) (x : List ℕ)
+      → isEmpty x ≡ false
+      → direction x (c .vertical) ≡ d
+      → cueSetting (settingAt p (ascii "vertical") x) c ≡ taken (setVertical d c)
+  unfolding absent isEmpty named same
+  vertical-read d x f e = setting-read p (ascii "vertical") x c refl refl f ∙ ap (λ d. taken (setVertical d c)) e
+
+  align-read :
+      (a : Align) (x : List ℕ)
+      → isEmpty x ≡ false
+      → alignment x (c .align) ≡ a
+      → cueSetting (settingAt p (ascii "align") x) c ≡ taken (setAlign a c)
+  unfolding absent isEmpty named same
+  align-read a x f e = setting-read p (ascii "align") x c refl refl f ∙ ap (λ a. taken (setAlign a c)) e
+
+  pub vertical-written :
+      (d : Direction) → All (λ t. cueSetting (record { place = p; bytes = t }) c ≡ taken (setVertical d c)) (writtenVertical d)
+  unfolding writtenVertical setting direction same isEmpty
+  vertical-written Direction.Horizontal = tt
+  vertical-written Direction.Rl = (vertical-read Direction.Rl (ascii "rl") refl refl, tt)
+  vertical-written Direction.Lr = (vertical-read Direction.Lr (ascii "lr") refl refl, tt)
+
+  pub align-written : (a : Align) → All (λ t. cueSetting (record { place = p; bytes = t }) c ≡ taken (setAlign a c)) (writtenAlign a)
+  unfolding writtenAlign setting alignment same isEmpty
+  align-written Align.Start = (align-read Align.Start (ascii "start") refl refl, tt)
+  align-written Align.Center = tt
+  align-written Align.End = (align-read Align.End (ascii "end") refl refl, tt)
+  align-written Align.Left = (align-read Align.Left (ascii "left") refl refl, tt)
+  align-written Align.Right = (align-read Align.Right (ascii "right") refl refl, tt)
+
+  pub size-read : (m : ℕ) → m ≤ 100_000_000 → cueSetting (settingAt p (ascii "size") (writtenPercentage m)) c ≡ taken (setSize m c)
+  unfolding absent isEmpty named same sizeOf
+  size-read m h =
+      setting-read p (ascii "size") (writtenPercentage m) c refl refl (writtenPercentage-some m)
+      ∙ ap (λ o. taken (sizeOf o c)) (percentage-read m h)
+
+  pub region-read :
+      (name : List ℕ)
+      → isEmpty name ≡ false
+      → cueSetting (settingAt p (ascii "region") name) c ≡ taken (setRegion (record { place = p + 7; bytes = name }) c)
+  unfolding absent isEmpty named same
+  region-read name f = setting-read p (ascii "region") name c refl refl f
+
+  pub position-read :
+      (m : ℕ) (a : PositionAlign)
+      → m ≤ 100_000_000
+      → (a ≡ PositionAlign.Auto → c .position .align ≡ PositionAlign.Auto)
+      → cueSetting (settingAt p (ascii "position") (writtenPercentage m ++ writtenPositionAlign a)) c
+      ≡ taken (setPosition (record { position = Position.At m; align = a }) c)
+  unfolding absent isEmpty named same positionSetting positionOf
+  position-read m a h o =
+      let s = writtenPercentage m in
+      let x = s ++ writtenPositionAlign a in
+      setting-read p (ascii "position") x c refl refl (some-append s (writtenPositionAlign a) (writtenPercentage-some m))
+      ∙ rw (position-before s a (percentage-absent m), percentage-read m h, position-align s a (c .position .align) (percentage-absent m) o)
+
+-- a line's number: with snap, up to the limit and with no minus zero; without, a percentage
+pub data LineNumbered : Bool → Bool → ℕ → Type 0 where
+  counted : {negative : Bool} {m : ℕ} → m ≤ 999_999_000_000 → (negative ≡ true → 0 < m) → LineNumbered true negative m
+  parted : {m : ℕ} → m ≤ 100_000_000 → LineNumbered false false m
+
+number-some : (snap negative : Bool) (m : ℕ) → isEmpty (writtenLineNumber snap negative m) ≡ false
+unfolding writtenLineNumber isEmpty
+number-some true true m = refl
+number-some true false m = writtenDecimal-some m
+number-some false negative m = writtenPercentage-some m
+
+line-number :
+    (x : List ℕ) (c : CueSettings) (snap negative : Bool) (m : ℕ) (a : LineAlign)
+    → LineNumbered snap negative m
+    → beforeFirst comma x ≡ writtenLineNumber snap negative m
+    → lineAlign x (c .line .align) ≡ some a
+    → lineSetting x c ≡ taken (setLine (record { line = Line.At negative m; snap = snap; align = a }) c)
+unfolding lineSetting linePercentage lineCounted writtenLineNumber
+line-number x c true negative m a (counted h z) b e =
+    let r = line-read negative m h z in
+    rw (b, e, line-ends true negative m, r .read, r .within, r .sign, r .value)
+line-number x c false false m a (parted h) b e = rw (b, e, line-ends false false m, percentage-read m h)
+
+pub line-setting-read :
+    (p : ℕ) (c : CueSettings) (snap negative : Bool) (m : ℕ) (a : LineAlign)
+    → LineNumbered snap negative m
+    → (a ≡ LineAlign.Start → c .line .align ≡ LineAlign.Start)
+    → cueSetting (settingAt p (ascii "line") (writtenLineNumber snap negative m ++ writtenLineAlign a)) c
+    ≡ taken (setLine (record { line = Line.At negative m; snap = snap; align = a }) c)
+unfolding absent isEmpty named same
+line-setting-read p c snap negative m a n o =
+    let s = writtenLineNumber snap negative m in
+    let x = s ++ writtenLineAlign a in
+    let h = line-absent snap negative m in
+    setting-read p (ascii "line") x c refl refl (some-append s (writtenLineAlign a) (number-some snap negative m))
+    ∙ line-number x c snap negative m a n (line-before s a h) (line-align s a (c .line .align) h o)
+
+-- each is a token
+setting-token :
+    (name value : List ℕ)
+    → isEmpty name ≡ false
+    → all black name ≡ true
+    → all black value ≡ true
+    → isToken (name ++ colon ∷ value) ≡ true
+unfolding isToken all white
+setting-token name value f n v = rw (some-append name (colon ∷ value) f) (all-append black name (colon ∷ value) n v)
+
+pub vertical-token : (d : Direction) → All (λ t. isToken t ≡ true) (writtenVertical d)
+unfolding writtenVertical setting isToken isEmpty all white
+vertical-token Direction.Horizontal = tt
+vertical-token Direction.Rl = (refl, tt)
+vertical-token Direction.Lr = (refl, tt)
+
+pub align-token : (a : Align) → All (λ t. isToken t ≡ true) (writtenAlign a)
+unfolding writtenAlign setting isToken isEmpty all white
+align-token Align.Start = (refl, tt)
+align-token Align.Center = tt
+align-token Align.End = (refl, tt)
+align-token Align.Left = (refl, tt)
+align-token Align.Right = (refl, tt)
+
+percentage-black : (m : ℕ) → all black (writtenPercentage m) ≡ true
+percentage-black m = numeral-unwhite (writtenPercentage m) (writtenPercentage-numeral m)
+
+pub size-token : (m : ℕ) → isToken (ascii "size" ++ colon ∷ writtenPercentage m) ≡ true
+unfolding isEmpty all white
+size-token m = setting-token (ascii "size") (writtenPercentage m) refl refl (percentage-black m)
+
+pub region-token : (name : List ℕ) → isToken name ≡ true → isToken (ascii "region" ++ colon ∷ name) ≡ true
+unfolding isToken isEmpty all white
+region-token name h = setting-token (ascii "region") name refl refl (and-right (not (isEmpty name)) (all black name) h)
+
+position-black : (a : PositionAlign) → all black (writtenPositionAlign a) ≡ true
+unfolding writtenPositionAlign all white
+position-black PositionAlign.Auto = refl
+position-black PositionAlign.LineLeft = refl
+position-black PositionAlign.Center = refl
+position-black PositionAlign.LineRight = refl
+
+pub position-token : (m : ℕ) (a : PositionAlign) → isToken (ascii "position" ++ colon ∷ (writtenPercentage m ++ writtenPositionAlign a)) ≡ true
+unfolding isEmpty all white
+position-token m a =
+    setting-token (ascii "position") (writtenPercentage m ++ writtenPositionAlign a) refl refl
+    (all-append black (writtenPercentage m) (writtenPositionAlign a) (percentage-black m)
+    (position-black a))
+
+line-black : (a : LineAlign) → all black (writtenLineAlign a) ≡ true
+unfolding writtenLineAlign all white
+line-black LineAlign.Start = refl
+line-black LineAlign.Center = refl
+line-black LineAlign.End = refl
+
+number-black : (snap negative : Bool) (m : ℕ) → all black (writtenLineNumber snap negative m) ≡ true
+unfolding writtenLineNumber all white
+number-black true true m = numeral-unwhite (writtenDecimal m) (writtenDecimal-numeral m)
+number-black true false m = numeral-unwhite (writtenDecimal m) (writtenDecimal-numeral m)
+number-black false negative m = percentage-black m
+
+pub line-token :
+    (snap negative : Bool) (m : ℕ) (a : LineAlign)
+    → isToken (ascii "line" ++ colon ∷ (writtenLineNumber snap negative m ++ writtenLineAlign a)) ≡ true
+unfolding isEmpty all white
+line-token snap negative m a =
+    setting-token (ascii "line") (writtenLineNumber snap negative m ++ writtenLineAlign a) refl refl
+    (all-append black (writtenLineNumber snap negative m) (writtenLineAlign a) (number-black snap negative m) (line-black a))
+
+-- texts that are tokens, and that turn settings into others wherever they stand
+record Sets (ts : List (List ℕ)) (c d : CueSettings) : Type 0 where
+  token : All (λ t. isToken t ≡ true) ts
+  read : (p : ℕ) → settingsFrom (taken c) (linesAt p ts) ≡ taken d
+
+settings-append : (s : Taken) (a b : List Part) → settingsFrom s (a ++ b) ≡ settingsFrom (settingsFrom s a) b
+unfolding settingsFrom
+settings-append s [] b = refl
+settings-append s (t ∷ a) b = settings-append _ a b
+
+settings-lines :
+    (c d : CueSettings) (p : ℕ) (xs ys : List (List ℕ))
+    → Sets xs c d
+    → settingsFrom (taken c) (linesAt p (xs ++ ys)) ≡ settingsFrom (taken d) (linesAt (p + length (lineEnded xs)) ys)
+settings-lines c d p xs ys f =
+    rw (lines-append p xs ys, settings-append (taken c) (linesAt p xs) (linesAt (p + length (lineEnded xs)) ys), f .read p)
+
+sets-both : {c d e : CueSettings} {xs ys : List (List ℕ)} → Sets xs c d → Sets ys d e → Sets (xs ++ ys) c e
+sets-both {c} {d} {e} {xs} {ys} f g =
+    record {
+      token = Standing.all-append (λ t. isToken t ≡ true) xs ys (f .token) (g .token);
+      read = λ p. settings-lines c d p xs ys f ∙ g .read (p + length (lineEnded xs));
+    }
+
+sets-none : (c : CueSettings) → Sets [] c c
+unfolding settingsFrom linesAt
+sets-none c = record { token = tt; read = λ p. refl }
+
+sets-one :
+    {t : List ℕ} {c d : CueSettings}
+    → isToken t ≡ true
+    → ((p : ℕ) → cueSetting (record { place = p; bytes = t }) c ≡ taken d)
+    → Sets (t ∷ []) c d
+unfolding settingsFrom linesAt
+sets-one h f = record { token = (h, tt); read = λ p. rw (f p) }
+
+-- what can be set: a line and a position that are auto with the opening alignment, or a number; a region with a token for a name
+pub data LineSettable : LinePlace → Type 0 where
+  autoLine : LineSettable (record { line = Line.Auto; snap = true; align = LineAlign.Start })
+  lineAt :
+      {snap negative : Bool} {m : ℕ} {b : LineAlign}
+      → LineNumbered snap negative m
+      → LineSettable (record { line = Line.At negative m; snap = snap; align = b })
+
+pub data PositionSettable : PositionPlace → Type 0 where
+  autoPosition : PositionSettable (record { position = Position.Auto; align = PositionAlign.Auto })
+  positionAt : {m : ℕ} {b : PositionAlign} → m ≤ 100_000_000 → PositionSettable (record { position = Position.At m; align = b })
+
+abbrev pub regionName : List RegionContents → Option ℕ → List ℕ
+regionName rs none = []
+regionName rs (some i) = getD (map (λ r. r .id) rs) i []
+
+pub data RegionSettable : List RegionContents → Option ℕ → Type 0 where
+  noRegion : {rs : List RegionContents} → RegionSettable rs none
+  regionAt : {rs : List RegionContents} {i : ℕ} → isToken (regionName rs (some i)) ≡ true → RegionSettable rs (some i)
+
+pub record Settable (rs : List RegionContents) (c : CueContents) : Type 0 where
+  pub line : LineSettable (c .line)
+  pub position : PositionSettable (c .position)
+  pub size : c .size ≤ 100_000_000
+  pub region : RegionSettable rs (c .region)
+
+-- settings with no region
+abbrev soFar : Direction → LinePlace → PositionPlace → ℕ → Align → CueSettings
+soFar v l q n a = record { vertical = v; line = l; position = q; size = n; align = a; region = nowhere }
+
+sets-vertical :
+    (d : Direction) (l : LinePlace) (q : PositionPlace) (n : ℕ) (a : Align)
+    → Sets (writtenVertical d) (soFar Direction.Horizontal l q n a) (soFar d l q n a)
+unfolding writtenVertical setting setVertical
+sets-vertical Direction.Horizontal l q n a = sets-none (soFar Direction.Horizontal l q n a)
+sets-vertical Direction.Rl l q n a =
+    sets-one (vertical-token Direction.Rl .0) (λ p. vertical-written p (soFar Direction.Horizontal l q n a) Direction.Rl .0)
+sets-vertical Direction.Lr l q n a =
+    sets-one (vertical-token Direction.Lr .0) (λ p. vertical-written p (soFar Direction.Horizontal l q n a) Direction.Lr .0)
+
+module _ (v : Direction) where
+  sets-line :
+      (l : LinePlace) (q : PositionPlace) (n : ℕ) (a : Align)
+      → LineSettable l
+      → Sets (writtenLine l) (soFar v (openingSettings .line) q n a) (soFar v l q n a)
+  unfolding writtenLine setting setLine
+  sets-line l q n a autoLine = sets-none (soFar v l q n a)
+  sets-line l q n a (lineAt {snap} {negative} {m} {b} h) =
+      sets-one (line-token snap negative m b)
+      (λ p. line-setting-read p (soFar v (openingSettings .line) q n a) snap negative m b h (λ e. refl))
+
+  sets-position :
+      (l : LinePlace) (q : PositionPlace) (n : ℕ) (a : Align)
+      → PositionSettable q
+      → Sets (writtenPosition q) (soFar v l (openingSettings .position) n a) (soFar v l q n a)
+  unfolding writtenPosition setting setPosition
+  sets-position l q n a autoPosition = sets-none (soFar v l q n a)
+  sets-position l q n a (positionAt {m} {b} h) =
+      sets-one (position-token m b) (λ p. position-read p (soFar v l (openingSettings .position) n a) m b h (λ e. refl))
+
+  sets-size :
+      (l : LinePlace) (q : PositionPlace) (n : ℕ) (a : Align)
+      → n ≤ 100_000_000
+      → Sets (writtenSize n) (soFar v l q 100_000_000 a) (soFar v l q n a)
+  unfolding writtenSize setting setSize
+  sets-size l q n a h =
+      by-test (eqb n 100_000_000)
+      (λ y. rw (y, eqb-true n 100_000_000 y) (sets-none (soFar v l q 100_000_000 a)))
+      (λ z. rw z (sets-one (size-token n) (λ p. size-read p (soFar v l q 100_000_000 a) n h ∙ rw z)))
+
+  sets-align : (l : LinePlace) (q : PositionPlace) (n : ℕ) (a : Align) → Sets (writtenAlign a) (soFar v l q n Align.Center) (soFar v l q n a)
+  unfolding writtenAlign setting setAlign
+  sets-align l q n Align.Start = sets-one (align-token Align.Start .0) (λ p. align-written p (soFar v l q n Align.Center) Align.Start .0)
+  sets-align l q n Align.Center = sets-none (soFar v l q n Align.Center)
+  sets-align l q n Align.End = sets-one (align-token Align.End .0) (λ p. align-written p (soFar v l q n Align.Center) Align.End .0)
+  sets-align l q n Align.Left = sets-one (align-token Align.Left .0) (λ p. align-written p (soFar v l q n Align.Center) Align.Left .0)
+  sets-align l q n Align.Right = sets-one (align-token Align.Right .0) (λ p. align-written p (soFar v l q n Align.Center) Align.Right .0)
+
+-- the settings of contents, with the name of the region that they ask for
+abbrev pub settingsOf : List RegionContents → CueContents → ℕ → CueSettings
+settingsOf rs c place =
+    record {
+      vertical = c .vertical;
+      line = c .line;
+      position = c .position;
+      size = c .size;
+      align = c .align;
+      region = record { place = place; bytes = regionName rs (c .region) };
+    }
+
+pub record SettingsRead (rs : List RegionContents) (c : CueContents) (s : Taken) : Type 0 where
+  pub place : ℕ
+  pub is : s ≡ taken (settingsOf rs c place)
+
+-- a region comes last: nothing behind it clears it
+regionPlace : Option ℕ → ℕ → ℕ
+regionPlace none p = 0
+regionPlace (some i) p = p + 7
+
+sets-region :
+    (v : Direction) (l : LinePlace) (q : PositionPlace) (n : ℕ) (a : Align) (rs : List RegionContents) (o : Option ℕ) (p : ℕ)
+    → RegionSettable rs o
+    → settingsFrom (taken (soFar v l q n a)) (linesAt p (writtenRegionName rs o))
+    ≡ taken (setRegion (record { place = regionPlace o p; bytes = regionName rs o }) (soFar v l q n a))
+unfolding writtenRegionName regionPlace setting settingsFrom linesAt setRegion isToken
+sets-region v l q n a rs none p noRegion = refl
+sets-region v l q n a rs (some i) p (regionAt t) =
+    let name = regionName rs (some i) in
+    rw (region-read p (soFar v l q n a) name (not-left (isEmpty name) (all black name) t))
+
+region-tokens : (rs : List RegionContents) (o : Option ℕ) → RegionSettable rs o → All (λ t. isToken t ≡ true) (writtenRegionName rs o)
+unfolding writtenRegionName setting
+region-tokens rs none noRegion = tt
+region-tokens rs (some i) (regionAt t) = (region-token (regionName rs (some i)) t, tt)
+
+module _ (rs : List RegionContents) (c : CueContents) (h : Settable rs c) where
+  withoutRegion : List (List ℕ)
+  withoutRegion =
+      writtenVertical (c .vertical) ++ writtenLine (c .line) ++ writtenPosition (c .position) ++ writtenSize (c .size) ++ writtenAlign (c .align)
+
+  sets-five : Sets withoutRegion openingSettings (soFar (c .vertical) (c .line) (c .position) (c .size) (c .align))
+  unfolding withoutRegion
+  sets-five =
+      let v = c .vertical in
+      let l = c .line in
+      let q = c .position in
+      let n = c .size in
+      let q₀ = openingSettings .position in
+      let n₀ = openingSettings .size in
+      let a₀ = openingSettings .align in
+      let two = sets-both (sets-vertical v (openingSettings .line) q₀ n₀ a₀) (sets-line v l q₀ n₀ a₀ (h .line)) in
+      let three = sets-both two (sets-position v l q n₀ a₀ (h .position)) in
+      sets-both (sets-both three (sets-size v l q n a₀ (h .size))) (sets-align v l q n (c .align))
+
+  pub settings-tokens : All (λ t. isToken t ≡ true) (writtenSettings rs c)
+  unfolding writtenSettings withoutRegion
+  settings-tokens =
+      Standing.all-append (λ t. isToken t ≡ true) withoutRegion (writtenRegionName rs (c .region)) (sets-five .token)
+      (region-tokens rs (c .region) (h .region))
+
+  pub settings-read : (p : ℕ) → SettingsRead rs c (cueSettings (record { place = p; bytes = afterSpaces (writtenSettings rs c) }))
+  unfolding cueSettings writtenSettings withoutRegion setRegion
+  settings-read p =
+      let now = soFar (c .vertical) (c .line) (c .position) (c .size) (c .align) in
+      let q = suc p + length (lineEnded withoutRegion) in
+      record {
+        place = regionPlace (c .region) q;
+        is =
+            ap (settingsFrom (taken openingSettings)) (tokens-afterSpaces p (writtenSettings rs c) settings-tokens)
+            ∙ settings-lines openingSettings now (suc p) withoutRegion (writtenRegionName rs (c .region)) sets-five
+            ∙ sets-region (c .vertical) (c .line) (c .position) (c .size) (c .align) rs (c .region) q (h .region);
+      }
+
+-- two times with an arrow between them
+module _ (start end : ℕ) (rest : List ℕ) where
+  abbrev fromArrow : List ℕ
+  fromArrow = ascii " --> " ++ (writtenTime end ++ rest)
+
+  times-read :
+      (t : TimeRead start fromArrow) (u : TimeRead end rest)
+      → timings (writtenTime start ++ fromArrow) ≡ got (record { start = t .time; end = u .time }) rest
+  unfolding timings arrowAndEnd arrow expect onGot pastRun white
+  times-read t u =
+      let skip = numeral-unskipped (writtenTime start) fromArrow (writtenTime-some start) (writtenTime-numeral start) in
+      let past = numeral-unskipped (writtenTime end) rest (writtenTime-some end) (writtenTime-numeral end) in
+      rw (skip, t .read, past, u .read)
+
+-- the timing line of contents
+pub record TimingRead (rs : List RegionContents) (c : CueContents) (o : Option Timing) : Type 0 where
+  pub place : ℕ
+  pub is : o ≡ some (record { start = c .start; end = c .end; settings = settingsOf rs c place; over = false })
+
+time-line : (ms : ℕ) → absent lf (writtenTime ms) ≡ true
+unfolding numeral digit
+time-line ms = numeral-absent lf (writtenTime ms) refl (writtenTime-numeral ms)
+
+spaces-stop : (ts : List (List ℕ)) → run digit (afterSpaces ts) ≡ []
+unfolding afterSpaces run digit
+spaces-stop [] = refl
+spaces-stop (t ∷ ts) = refl
+
+spaces-line : (ts : List (List ℕ)) → All (λ t. isToken t ≡ true) ts → absent lf (afterSpaces ts) ≡ true
+unfolding afterSpaces absent isToken
+spaces-line [] h = refl
+spaces-line (t ∷ ts) h =
+    let line = black-line t (and-right (not (isEmpty t)) (all black t) (h .0)) in
+    absent-append lf t (afterSpaces ts) line (spaces-line ts (h .1))
+
+arrow-behind : (s t : List ℕ) → holdsArrow t ≡ true → holdsArrow (s ++ t) ≡ true
+unfolding holdsArrow
+arrow-behind [] t e = e
+arrow-behind (b ∷ s) t e = rw (arrow-behind s t e) (or-true (startsWith (ascii "-->") (b ∷ (s ++ t))))
+
+module _ (rs : List RegionContents) (c : CueContents) where
+  abbrev settingsText : List ℕ
+  settingsText = afterSpaces (writtenSettings rs c)
+
+  timing-is : writtenTiming rs c ≡ writtenTime (c .start) ++ fromArrow (c .start) (c .end) settingsText
+  unfolding writtenTiming
+  timing-is =
+      append-assoc (writtenTime (c .start) ++ ascii " --> ") (writtenTime (c .end)) settingsText
+      ∙ append-assoc (writtenTime (c .start)) (ascii " --> ") (writtenTime (c .end) ++ settingsText)
+
+  pub timing-arrow : holdsArrow (writtenTiming rs c) ≡ true
+  unfolding holdsArrow startsWith
+  timing-arrow = rw timing-is (arrow-behind (writtenTime (c .start)) (fromArrow (c .start) (c .end) settingsText) refl)
+
+  pub timing-line : Settable rs c → absent lf (writtenTiming rs c) ≡ true
+  unfolding absent
+  timing-line h =
+      let rest = spaces-line (writtenSettings rs c) (settings-tokens rs c h) in
+      let tail = absent-append lf (writtenTime (c .end)) settingsText (time-line (c .end)) rest in
+      rw timing-is (absent-append lf (writtenTime (c .start)) (fromArrow (c .start) (c .end) settingsText) (time-line (c .start)) tail)
+
+  pub timing-read :
+      (p : ℕ)
+      → c .start < 360_000_000_000
+      → c .end < 360_000_000_000
+      → Settable rs c
+      → TimingRead rs c (timingLine (record { place = p; bytes = writtenTiming rs c }))
+  unfolding timingLine timingOf withSettings run digit
+  timing-read p l m h =
+      let arrow = fromArrow (c .start) (c .end) settingsText in
+      let u = time-read (c .end) settingsText m (spaces-stop (writtenSettings rs c)) in
+      let t = time-read (c .start) arrow l refl in
+      let line = writtenTime (c .start) ++ arrow in
+      let s = settings-read rs c h (p + (length line - length settingsText)) in
+      record {
+        place = s .place;
+        is = rw (timing-is, times-read (c .start) (c .end) settingsText t u, s .is, t .value, u .value, t .within, u .within);
+      }
+
+-- a row's line, position and region can be set
+plus-percentage : (kind m : ℕ) → eqb kind 1 || eqb m 0 ≡ true → eqb kind 2 && ltb 0 m ≡ false
+plus-percentage kind m e =
+    by-test (eqb kind 1)
+    (λ y. rw (ne-eqb kind 2 (λ z. omega (arith, eqb-true kind 1 y))))
+    (λ n. let is : eqb m 0 ≡ true = rw n at e in and-false (eqb kind 2) (ltb 0 m) (le-ltb 0 m (omega (arith, eqb-true m 0 is))))
+
+line-fits : (s w : List ℕ) → lineFits w ≡ true → LineSettable (cueOfWords s w .line)
+unfolding lineFits cueOfWords unsignedZero is100
+line-fits s w f =
+    let kind = word 7 w in
+    let m = word 8 w in
+    let snap = word 9 w in
+    let a = word 10 w in
+    by-test (eqb kind 0)
+    (λ y. let g : eqb a 0 && eqb snap 0 ≡ true = rw y at f in
+    rw (y, and-right (eqb a 0) (eqb snap 0) g, and-left (eqb a 0) (eqb snap 0) g) autoLine)
+    (λ n. by-test (eqb snap 0)
+    (λ y. let g : leb m 999_999_000_000 ≡ true = rw (n, y) at f in
+    rw (n, y) (lineAt (counted (leb-true m 999_999_000_000 g) (λ e. ltb-true 0 m (and-right (eqb kind 2) (ltb 0 m) e)))))
+    (λ z. let g : leb m 100_000_000 && (eqb kind 1 || eqb m 0) ≡ true = rw (n, z) at f in
+    rw (n, z, plus-percentage kind m (and-right (leb m 100_000_000) (eqb kind 1 || eqb m 0) g))
+    (lineAt (parted (leb-true m 100_000_000 (and-left (leb m 100_000_000) (eqb kind 1 || eqb m 0) g))))))
+
+position-fits : (s w : List ℕ) → positionFits w ≡ true → PositionSettable (cueOfWords s w .position)
+unfolding positionFits cueOfWords is100
+position-fits s w f =
+    by-test (eqb (word 11 w) 0)
+    (λ y. let g : eqb (word 13 w) 0 ≡ true = rw y at f in rw (y, g) autoPosition)
+    (λ n. let g : leb (word 12 w) 100_000_000 ≡ true = rw n at f in rw n (positionAt (leb-true (word 12 w) 100_000_000 g)))
+
+names-of : (s : List ℕ) (rows : List (List ℕ)) → map (λ r. r .id) (map (regionOfWords s) rows) ≡ map (λ r. bytesAt s (word 0 r) (word 1 r)) rows
+unfolding regionOfWords
+names-of s [] = refl
+names-of s (r ∷ rows) = rw (names-of s rows)
+
+name-black : (s r : List ℕ) → regionFails s r ≡ none → all black (regionOfWords s r .id) ≡ true
+unfolding regionFails regionTest2 regionOfWords
+name-black s r e =
+    let passed = none-fails 1 (regionTest1 s r ∷ regionTest2 s r ∷ regionTest3 r ∷ regionTest4 r ∷ []) e in
+    let id = bytesAt s (word 0 r) (word 1 r) in
+    and-left (all black id) (not (holdsArrow id)) (passed .1 .0)
+
+names-black :
+    (s : List ℕ) (rows : List (List ℕ)) (i : ℕ)
+    → All (λ r. regionFails s r ≡ none) rows
+    → all black (regionName (map (regionOfWords s) rows) (some i)) ≡ true
+unfolding all
+names-black s [] zero h = refl
+names-black s [] (suc i) h = refl
+names-black s (r ∷ rows) zero h = name-black s r (h .0)
+names-black s (r ∷ rows) (suc i) h = names-black s rows i (h .1)
+
+region-allowed :
+    (rs : List RegionContents) (o : Option ℕ)
+    → regionAllowed (map (λ r. r .id) rs) o ≡ true
+    → ((i : ℕ) → all black (regionName rs (some i)) ≡ true)
+    → RegionSettable rs o
+unfolding regionAllowed lastOfItsName isToken
+region-allowed rs none e f = noRegion
+region-allowed rs (some i) e f =
+    let names = map (λ r. r .id) rs in
+    let name = regionName rs (some i) in
+    let last = isIndex (lastNamed 0 name names) i in
+    let full = and-left (not (isEmpty name)) last (and-right (ltb i (length names)) (not (isEmpty name) && last) e) in
+    regionAt (and-both (not (isEmpty name)) (all black name) full (f i))
+
+-- what the tests say of a cue's row, beside regions' rows
+pub record CueWritable (s : List ℕ) (rows : List (List ℕ)) (w : List ℕ) : Type 0 where
+  pub settable : Settable (map (regionOfWords s) rows) (cueOfWords s w)
+  pub start : cueOfWords s w .start < 360_000_000_000
+  pub end : cueOfWords s w .end < 360_000_000_000
+  pub line : absent lf (cueOfWords s w .id) ≡ true
+  pub plain : holdsArrow (cueOfWords s w .id) ≡ false
+  pub text : isEmpty (cueOfWords s w .text) || unbroken (cueOfWords s w .text) ≡ true
+  pub region : regionAllowed (map (λ r. r .id) (map (regionOfWords s) rows)) (cueOfWords s w .region) ≡ true
+
+pub cue-writable :
+    (s : List ℕ) (rows : List (List ℕ)) (w : List ℕ)
+    → cueFails s rows w ≡ none
+    → All (λ r. regionFails s r ≡ none) rows
+    → CueWritable s rows w
+unfolding cueFails cueTest2 cueTest3 cueTest4 cueTest5 cueTest6 cueOfWords is100
+cue-writable s rows w e h =
+    let passed = none-fails 1 (cueTest1 s w ∷ cueTest2 s w ∷ cueTest3 s w ∷ cueTest4 w ∷ cueTest5 w ∷ cueTest6 s rows w ∷ []) e in
+    let id = bytesAt s (word 0 w) (word 1 w) in
+    let second = passed .1 .0 in
+    let times = passed .1 .1 .1 .0 in
+    let before = ltb-true (word 2 w) (word 3 w) (and-left (ltb (word 2 w) (word 3 w)) (ltb (word 3 w) 360_000_000_000) times) in
+    let within = ltb-true (word 3 w) 360_000_000_000 (and-right (ltb (word 2 w) (word 3 w)) (ltb (word 3 w) 360_000_000_000) times) in
+    let fits = passed .1 .1 .1 .1 .0 in
+    let others = and-right (lineFits w) (positionFits w && is100 (word 14 w)) fits in
+    let rs = map (regionOfWords s) rows in
+    let allowed : regionAllowed (map (λ r. r .id) rs) (cueOfWords s w .region) ≡ true = rw (names-of s rows) (passed .1 .1 .1 .1 .1 .0) in
+    record {
+      settable = record {
+        line = line-fits s w (and-left (lineFits w) (positionFits w && is100 (word 14 w)) fits);
+        position = position-fits s w (and-left (positionFits w) (is100 (word 14 w)) others);
+        size = leb-true (word 14 w) 100_000_000 (and-right (positionFits w) (is100 (word 14 w)) others);
+        region = region-allowed rs (cueOfWords s w .region) allowed (λ i. names-black s rows i h);
+      };
+      start = omega arith;
+      end = within;
+      line = absent-has lf id (and-left (not (has lf id)) (not (holdsArrow id)) second);
+      plain = not-true (holdsArrow id) (and-right (not (has lf id)) (not (holdsArrow id)) second);
+      text = passed .1 .1 .0;
+      region = allowed;
+    }
