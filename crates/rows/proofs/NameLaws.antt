@@ -6,10 +6,13 @@ use mathlib.Core.List.{List, [], _∷_, _++_, map, map-append}
 use mathlib.Core.Option.{Option, none, some}
 use native.Mathlib.Omega.{arith}
 use lib.ListN.{length, take, drop, getD, length-map}
-use lib.Seq.{take-suc, length-take-le}
+use lib.Dec.{leb}
+use lib.Seq.{take-suc, take-all, take-length, length-take-le}
+use borrow.Author.Tests.{leb-true, leb-false}
 use Rattle.format.specs.Texts.{same}
 use Rattle.format.specs.RegionSettings.{laterOr, lastNamed}
 use Rattle.format.specs.Rows.{indexIs, regionWord}
+use Rattle.laws.proofs.Tests.{by-test}
 use Rattle.values.specs.Tokens.{partOf}
 
 -- the bytes of a part, as the code cuts them
@@ -76,3 +79,12 @@ named-word k x [] = omega arith
 named-word k x (id ∷ ids) =
     later-word (lastNamed (k + 1) x ids) (cond (same id x) (some k) none) (k + suc (length ids)) (omega (arith, named-word (k + 1) x ids))
     (here-word (same id x) k (k + suc (length ids)) (omega arith))
+
+-- the first rows of a table, cut to its length
+pub take-min : {A : Type 0} (n : ℕ) (l : List A) → take n l ≡ take (min n (length l)) l
+take-min n l =
+    by-test (leb n (length l))
+    (λ y. let e : min n (length l) ≡ n = omega (arith, leb-true n (length l) y) in rw e)
+    (λ z. let k = leb-false n (length l) z in
+    let e : min n (length l) ≡ length l = omega arith in
+    rw (e, take-length l) (take-all n l (omega arith)))

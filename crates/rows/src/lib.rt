@@ -14,8 +14,8 @@ use format::settings::Span;
 use values::bytes::same_bytes;
 ghost use mathlib.Core.Path.{_≡_};
 ghost use mathlib.Core.List.{map};
-ghost use Prim.Native.Nat.{_-_, _≤_, _<_};
-ghost use lib.ListN.{length, take};
+ghost use Prim.Native.Nat.{_-_, _<_};
+ghost use lib.ListN.{take};
 ghost use Rattle.format.specs.Texts.{same};
 ghost use Rattle.format.specs.RegionSettings.{lastNamed};
 ghost use Rattle.format.specs.Rows.{cueWords, regionWords, styleWords, cueOfRow, regionOfRow, indexIs, word};
@@ -156,15 +156,15 @@ fn is_named(text: &[u8], row: [u64; 9], name: &[u8]) -> bool
 
 // The last of the first `count` rows whose region has this name, a part of the text, as its identifier.
 pub fn find_region(text: &[u8], regions: &[[u64; 9]], count: usize, name: Span) -> RegionIndex
-    requires { ⌜ count ≤ length (now regions) ⌝ }
     ensures { λ r. ⌜ r ≡ indexIs (lastNamed 0 (partOf (now (text .entry)) (name .from) (name .to) .bytes) (map (λ row. partOf (now (text .entry)) (word 0 row) (word 1 row) .bytes) (take count (now (regions .entry))))) ⌝ }
 {
     let end = values::least(name.to, text.len());
     let start = values::least(name.from, end);
     let wanted = &text[start..end];
+    let rows = values::least(count, regions.len());
     let mut k = 0;
-    while k < count {
-        let i = from_end(count, k);
+    while k < rows {
+        let i = from_end(rows, k);
         let row = regions[i];
         if is_named(text, row, wanted) {
             return RegionIndex::At(i as u64);

@@ -1,6 +1,6 @@
 -- `rows::find_region` meets its contract: what is left, all rows but the last k, gives the answer of all.
-use Prim.Native.Nat.{ℕ, _+_, _-_, _≤_, _<_}
-use mathlib.Core.Path.{_≡_, refl, sym, ap, _∙_}
+use Prim.Native.Nat.{ℕ, _+_, _-_, _≤_, _<_, min}
+use mathlib.Core.Path.{_≡_, sym, ap, _∙_}
 use mathlib.Core.Bool.{cond}
 use mathlib.Core.List.{List, [], map}
 use mathlib.Core.Option.{some}
@@ -9,7 +9,7 @@ use lib.ListN.{length, take, drop}
 use Rattle.format.specs.RegionSettings.{lastNamed}
 use Rattle.format.specs.Rows.{word}
 use Rattle.values.specs.Tokens.{partOf}
-use Rattle.rows.proofs.NameLaws.{part-bytes, named-before}
+use Rattle.rows.proofs.NameLaws.{part-bytes, named-before, take-min}
 use borrow.Author.Needs.{needs}
 use Rattle.rows.proofs.find_region.Statement.{statement}
 use Rattle.rows.proofs.find_region.Tie as tie
@@ -19,12 +19,12 @@ abbrev idOf : List ℕ → List ℕ → List ℕ
 idOf s row = partOf s (word 0 row) (word 1 row) .bytes
 
 abbrev Inv-loop : tie.InvT-loop
-Inv-loop text regions count end start wanted k₀ k =
-    (k ≤ count)
-    × (lastNamed 0 wanted (map (idOf text) (take count regions)) ≡ lastNamed 0 wanted (map (idOf text) (take (count - k) regions)))
+Inv-loop text regions count end start wanted rows k₀ k =
+    (k ≤ rows)
+    × (lastNamed 0 wanted (map (idOf text) (take count regions)) ≡ lastNamed 0 wanted (map (idOf text) (take (rows - k) regions)))
 
 abbrev μ-loop : tie.MeasureT-loop
-μ-loop text regions count end start wanted k₀ k = count - k
+μ-loop text regions count end start wanted rows k₀ k = rows - k
 
 least-requires : tie.Need-least-requires Inv-loop μ-loop
 least-requires c κs = search needs
@@ -41,18 +41,26 @@ part-wanted-start c = search needs
 part-wanted-end : tie.Need-part-wanted-end Inv-loop μ-loop
 part-wanted-end c = search needs
 
+least-requires-3 : tie.Need-least-requires-3 Inv-loop μ-loop
+least-requires-3 c κs = search needs
+
 loop-holds : tie.Need-loop-holds Inv-loop μ-loop
 loop-holds c =
-    let args = c .before .before .before .before .args in
-    let all : args .count - 0 ≡ args .count = omega arith in
-    (omega arith, rw all refl)
+    let cut = c .before .before in
+    let args = cut .before .before .before .args in
+    let wanted = take (cut .before .least .result - cut .least2 .result) (drop (cut .least2 .result) (args .text .now)) in
+    let rows = args .regions .now in
+    let all : c .least3 .result - 0 ≡ min (args .count) (length rows) = omega (arith, c .least3 .ensures) in
+    (omega arith, rw all (ap (λ r. lastNamed 0 wanted (map (idOf (args .text .now)) r)) (take-min (args .count) rows)))
 
 from-end-requires : tie.Need-from-end-requires Inv-loop μ-loop
 from-end-requires c κs = search needs
 
 -- the row's index is inside the table
-row-inside : (c : tie.After-from-end Inv-loop μ-loop) → c .from-end .result < length (c .before .before .before .before .before .before .before .args .regions .now)
-row-inside c = omega (arith, c .from-end .ensures)
+row-inside :
+    (c : tie.After-from-end Inv-loop μ-loop)
+    → c .from-end .result < length (c .before .before .before .before .before .before .before .before .args .regions .now)
+row-inside c = omega (arith, c .from-end .ensures, c .before .before .before .least3 .ensures)
 
 mul-row : tie.Need-mul-row Inv-loop μ-loop
 mul-row c = let inside = row-inside c in search (needs, inside)
@@ -68,7 +76,7 @@ turn :
     (c : tie.After-is-named Inv-loop μ-loop)
     → let found = c .before .before in
     let at = found .before .before in
-    let cut = at .before .before in
+    let cut = at .before .before .before in
     let args = cut .before .before .before .args in
     let wanted = take (cut .before .least .result - cut .least2 .result) (drop (cut .least2 .result) (args .text .now)) in
     lastNamed 0 wanted (map (idOf (args .text .now)) (take (args .count) (args .regions .now)))
@@ -77,15 +85,16 @@ turn :
 turn c =
     let found = c .before .before in
     let at = found .before .before in
-    let cut = at .before .before in
+    let rows = at .before .least3 in
+    let cut = at .before .before .before in
     let args = cut .before .before .before .args in
-    let left = args .count - at .loop .k in
+    let left = rows .result - at .loop .k in
     let i = found .from-end .result in
     let wanted = take (cut .before .least .result - cut .least2 .result) (drop (cut .least2 .result) (args .text .now)) in
     let before = lastNamed 0 wanted (map (idOf (args .text .now)) (take i (args .regions .now))) in
     let last : left - 1 ≡ i = omega (arith, found .from-end .ensures) in
     at .loop .inv .1
-    ∙ rw last at (named-before (idOf (args .text .now)) wanted (args .regions .now) [] left (omega arith) (omega arith))
+    ∙ rw last at (named-before (idOf (args .text .now)) wanted (args .regions .now) [] left (omega arith) (omega (arith, rows .ensures)))
     ∙ ap (λ t. cond t (some i) before) (sym (c .is-named .ensures))
 
 -- the name that was cut
@@ -107,7 +116,7 @@ cut-name c =
 
 returns : tie.Need-returns Inv-loop μ-loop
 returns c =
-    let cut = c .before .before .before .before .before .before .before in
+    let cut = c .before .before .before .before .before .before .before .before in
     sym (rw (← cut-name cut, turn (c .before), c .if1 .taken))
 
 add-k : tie.Need-add-k Inv-loop μ-loop
@@ -120,16 +129,15 @@ loop-again : tie.Need-loop-again Inv-loop μ-loop
 loop-again c =
     let found = c .before .before .before in
     let at = found .before .before in
-    let args = at .before .before .before .before .before .args in
-    let next : args .count - (at .loop .k + 1) ≡ found .from-end .result = omega (arith, found .from-end .ensures) in
+    let next : at .before .least3 .result - (at .loop .k + 1) ≡ found .from-end .result = omega (arith, found .from-end .ensures) in
     (omega arith, turn (c .before) ∙ rw (c .if1 .left, next))
 
 returns-2 : tie.Need-returns-2 Inv-loop μ-loop
 unfolding lastNamed
 returns-2 c =
     let at = c .before in
-    let cut = at .before .before in
-    let z : cut .before .before .before .args .count - at .loop .k ≡ 0 = omega arith in
+    let cut = at .before .before .before in
+    let z : at .before .least3 .result - at .loop .k ≡ 0 = omega arith in
     sym (rw (← cut-name cut, at .loop .inv .1, z))
 
 pub find-region-spec : {M : Type 1} → statement M
@@ -143,6 +151,7 @@ find-region-spec =
     sub-wanted
     part-wanted-start
     part-wanted-end
+    least-requires-3
     loop-holds
     from-end-requires
     mul-row
