@@ -151,12 +151,20 @@ record Took (s : List ℕ) (e : ℕ) (h : Head) (ls : List Part) : Type 0 where
   bytes : endedLines (bytesOf (taken (h .left) ls)) ≡ slice s e (collectFrom h e ls .to)
   first : joined (taken (h .left) ls) ≡ cond (eqb e (collectFrom h e ls .to)) nowhere (record { place = e + 1; bytes = join (bytesOf (taken (h .left) ls)) })
 
-pub last-line : (s : List ℕ) → fresh (linesFrom s (length s)) ≡ []
+last-line : (s : List ℕ) → fresh (linesFrom s (length s)) ≡ []
 unfolding blocksFrom collected isEmpty run
 last-line s =
     let none : lineAt s (length s) ≡ [] = let all : length s ≤ length s = omega arith in ap (run inLine) (drop-of-length-le s all) in
     rw (lines-next s (length s) (length s) (omega arith) (sym (ap (λ x. length s + length x) none ∙ add-zero (length s))), none, lines-end s (length s + 1) (omega arith))
     (fresh-empty (record { place = length s; bytes = [] }) [] refl)
+
+-- no block begins at a text's end or behind it
+pub fresh-behind : (s : List ℕ) (p : ℕ) → length s ≤ p → fresh (linesFrom s p) ≡ []
+unfolding blocksFrom collected
+fresh-behind s p l =
+    by-test (ltb (length s) p)
+    (λ y. rw (lines-end s p (ltb-true (length s) p y)) refl)
+    (λ n. let e : p ≡ length s = omega (arith, ltb-false (length s) p n) in rw e (last-line s))
 
 collect-stop :
     (h : Head) (e : ℕ) (l : Part) (ms : List Part)

@@ -30,9 +30,8 @@ pub enum Next {
     Block { from: usize, stop: Stop },
 }
 
-// The next block that begins at `at` or behind it.
+// The next block that begins at `at` or behind it; none where that is behind the text.
 pub fn next_block(s: &[u8], at: usize) -> Next
-    requires { ⌜ at ≤ length (now s) ⌝ }
     ensures { λ r. ⌜ NextIs (now (s .entry)) at r ⌝ }
 {
     let mut i = at;

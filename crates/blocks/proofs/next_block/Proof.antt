@@ -12,19 +12,19 @@ use Rattle.laws.proofs.Runs.{run-stop}
 use Rattle.format.specs.Blocks.{between, blocksFrom}
 use Rattle.blocks.specs.Collecting.{linesFrom}
 use Rattle.blocks.proofs.LineLaws.{inLine, lineAt, lines-next}
-use Rattle.blocks.proofs.BlockLaws.{fresh-empty, last-line, block-at}
+use Rattle.blocks.proofs.BlockLaws.{fresh-empty, fresh-behind, block-at}
 use borrow.Author.Needs.{needs}
 use Rattle.blocks.proofs.next_block.Statement.{statement}
 use Rattle.blocks.proofs.next_block.Tie as tie
 
 abbrev Inv-loop : tie.InvT-loop
-Inv-loop s at i₀ i = (at ≤ i) × (i ≤ length s) × (blocksFrom between (linesFrom s at) ≡ blocksFrom between (linesFrom s i))
+Inv-loop s at i₀ i = (at ≤ i) × (blocksFrom between (linesFrom s at) ≡ blocksFrom between (linesFrom s i))
 
 abbrev μ-loop : tie.MeasureT-loop
 μ-loop s at i₀ i = length s - i
 
 loop-holds : tie.Need-loop-holds Inv-loop μ-loop
-loop-holds c = (omega arith, omega arith, refl)
+loop-holds c = (omega arith, refl)
 
 shared-slice-read-if1 : tie.Need-shared-slice-read-if1 Inv-loop μ-loop
 shared-slice-read-if1 c = search needs
@@ -39,7 +39,7 @@ returns c =
     let s = at .before .before .args .s .now in
     record {
       skipped = at .loop .inv .0;
-      same = at .loop .inv .2;
+      same = at .loop .inv .1;
       block = rw (c .collect .ensures) (block-at s (at .loop .i) (omega arith) (ap not (ne-eqb (getD s (at .loop .i) 0) lf (out .if1 .taken))));
     }
 
@@ -58,14 +58,13 @@ loop-again c =
     let none : lineAt s i ≡ [] = run-stop inLine s i (omega arith) (ap not (eq-eqb (getD s i 0) lf (c .if1 .left))) in
     let lines = lines-next s i i (omega arith) (omega (arith, ap length none)) in
     let l : Part = record { place = i; bytes = lineAt s i } in
-    (omega arith, omega arith, at .loop .inv .2 ∙ ap (blocksFrom between) lines ∙ fresh-empty l (linesFrom s (i + 1)) (rw none refl))
+    (omega arith, at .loop .inv .1 ∙ ap (blocksFrom between) lines ∙ fresh-empty l (linesFrom s (i + 1)) (rw none refl))
 
 returns-2 : tie.Need-returns-2 Inv-loop μ-loop
 returns-2 c =
     let at = c .before in
     let s = at .before .before .args .s .now in
-    let end : at .loop .i ≡ length s = omega arith in
-    at .loop .inv .2 ∙ rw end (last-line s)
+    at .loop .inv .1 ∙ fresh-behind s (at .loop .i) (omega arith)
 
 pub next-block-spec : {M : Type 1} → statement M
 next-block-spec = tie.close (tie.spec Inv-loop μ-loop loop-holds shared-slice-read-if1 collect-requires returns add-i loop-less loop-again returns-2)

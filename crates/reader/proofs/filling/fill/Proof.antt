@@ -31,7 +31,7 @@ loop-holds c =
     fill-start (a .text .now) (a .cues .now) (a .regions .now) (a .styles .now) (a .from) (pre .0 .0) (pre .0 .2) (pre .0 .3)
 
 next-block-requires : tie.Need-next-block-requires Inv-loop μ-loop
-next-block-requires c κs = c .loop .inv .inside
+next-block-requires c κs = search needs
 
 enum-known-next : tie.Need-enum-known-next Inv-loop μ-loop
 enum-known-next c = search needs
