@@ -9,7 +9,7 @@ ghost use Rattle.format.specs.Lists.{lists};
 ghost use Rattle.format.specs.Rows.{cueRows, regionRows, styleRows};
 ghost use Rattle.format.specs.Reading.{readingIs, reading, afterReading};
 
-pub mod counting;
+mod counting;
 mod filling;
 pub mod parts;
 
