@@ -11,7 +11,6 @@ use lib.Seq.{take-suc, take-all, take-length, length-take-le}
 use borrow.Author.Tests.{leb-true, leb-false}
 use Rattle.format.specs.Texts.{same}
 use Rattle.format.specs.RegionSettings.{laterOr, lastNamed}
-use Rattle.format.specs.Rows.{indexIs, regionWord}
 use Rattle.laws.proofs.Tests.{by-test}
 use Rattle.values.specs.Tokens.{partOf}
 
@@ -58,27 +57,6 @@ named-before f x rows d i p h =
     ∙ ap (λ r. lastNamed 0 x r) (map-append f (take (i - 1) rows) (getD rows (i - 1) d ∷ []))
     ∙ named-snoc 0 x (f (getD rows (i - 1) d)) (map f (take (i - 1) rows))
     ∙ ap (λ m. cond (same (f (getD rows (i - 1) d)) x) (some m) (lastNamed 0 x (map f (take (i - 1) rows)))) n
-
--- the word of an index that was found is at most the count of rows, so that a table's length bounds it
-later-word :
-    (o p : Option ℕ) (n : ℕ)
-    → regionWord (indexIs o) ≤ n
-    → regionWord (indexIs p) ≤ n
-    → regionWord (indexIs (laterOr o p)) ≤ n
-unfolding laterOr
-later-word none p n a b = b
-later-word (some i) p n a b = a
-
-here-word : (t : Bool) (k n : ℕ) → k < n → regionWord (indexIs (cond t (some k) none)) ≤ n
-here-word true k n h = omega arith
-here-word false k n h = omega arith
-
-pub named-word : (k : ℕ) (x : List ℕ) (ids : List (List ℕ)) → regionWord (indexIs (lastNamed k x ids)) ≤ k + length ids
-unfolding lastNamed
-named-word k x [] = omega arith
-named-word k x (id ∷ ids) =
-    later-word (lastNamed (k + 1) x ids) (cond (same id x) (some k) none) (k + suc (length ids)) (omega (arith, named-word (k + 1) x ids))
-    (here-word (same id x) k (k + suc (length ids)) (omega arith))
 
 -- the first rows of a table, cut to its length
 pub take-min : {A : Type 0} (n : ℕ) (l : List A) → take n l ≡ take (min n (length l)) l
