@@ -39,6 +39,7 @@ pub record Contents : Type 0 where
   pub regions : List RegionContents
   pub styles : List (List ℕ)
 
+-- the contents of a cue of a file with these regions, of a region, and of whole lists
 unfoldable pub cueContents : List RegionValues → Cue → CueContents
 cueContents rs c =
     record {

@@ -32,6 +32,7 @@ cueOf id ls none = nothing
 cueOf id ls (some t) =
     cue (record { id = id; start = t .start; end = t .end; settings = t .settings; text = joined ls }) (t .over)
 
+-- 11.6.1: the region of a REGION block
 unfoldable pub regionOf : TakenRegion → Item
 regionOf t = region (t .region) (t .over)
 

@@ -21,6 +21,7 @@ readingIs Reading.NoSignature = refused 4 []
 readingIs Reading.OverLimit = refused 5 []
 readingIs (Reading.TablesTooShort cues regions styles) = refused 6 (cues ∷ regions ∷ styles ∷ [])
 
+-- refusal 6: "all counts needed"
 unfoldable pub counts : Lists → List ℕ
 counts l = length (l .cues) ∷ length (l .regions) ∷ length (l .styles) ∷ []
 

@@ -212,10 +212,12 @@ regionOfRow w =
     }))
     RegionDecoded.Bad
 
+-- the regions' identifiers, in their order
 unfoldable pub ids : List RegionValues → List (List ℕ)
 ids [] = []
 ids (r ∷ rs) = r .id .bytes ∷ ids rs
 
+-- an index, or none, as an entry has it
 abbrev pub indexIs : Option ℕ → RegionIndex
 indexIs none = RegionIndex.None
 indexIs (some i) = RegionIndex.At i
