@@ -678,21 +678,21 @@ region-allowed rs (some i) e f =
     let full = and-left (not (isEmpty name)) last (and-right (ltb i (length names)) (not (isEmpty name) && last) e) in
     regionAt (and-both (not (isEmpty name)) (all black name) full (f i))
 
--- what the tests say of a cue's row, beside regions' rows
-pub record CueWritable (s : List ℕ) (rows : List (List ℕ)) (w : List ℕ) : Type 0 where
-  pub settable : Settable (map (regionOfWords s) rows) (cueOfWords s w)
-  pub start : cueOfWords s w .start < 360_000_000_000
-  pub end : cueOfWords s w .end < 360_000_000_000
-  pub line : absent lf (cueOfWords s w .id) ≡ true
-  pub plain : holdsArrow (cueOfWords s w .id) ≡ false
-  pub text : isEmpty (cueOfWords s w .text) || unbroken (cueOfWords s w .text) ≡ true
-  pub region : regionAllowed (map (λ r. r .id) (map (regionOfWords s) rows)) (cueOfWords s w .region) ≡ true
+-- a cue that can be written, with these regions; it is what the tests say of a cue's row, beside regions' rows
+pub record CueWritable (rs : List RegionContents) (c : CueContents) : Type 0 where
+  pub settable : Settable rs c
+  pub start : c .start < 360_000_000_000
+  pub end : c .end < 360_000_000_000
+  pub line : absent lf (c .id) ≡ true
+  pub plain : holdsArrow (c .id) ≡ false
+  pub text : isEmpty (c .text) || unbroken (c .text) ≡ true
+  pub region : regionAllowed (map (λ r. r .id) rs) (c .region) ≡ true
 
 pub cue-writable :
     (s : List ℕ) (rows : List (List ℕ)) (w : List ℕ)
     → cueFails s rows w ≡ none
     → All (λ r. regionFails s r ≡ none) rows
-    → CueWritable s rows w
+    → CueWritable (map (regionOfWords s) rows) (cueOfWords s w)
 unfolding cueFails cueTest2 cueTest3 cueTest4 cueTest5 cueTest6 cueOfWords is100
 cue-writable s rows w e h =
     let passed = none-fails 1 (cueTest1 s w ∷ cueTest2 s w ∷ cueTest3 s w ∷ cueTest4 w ∷ cueTest5 w ∷ cueTest6 s rows w ∷ []) e in

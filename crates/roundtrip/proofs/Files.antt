@@ -1,6 +1,6 @@
 -- Writing any writable lists and reading the file so made gives those lists back, by contents; the file is plain, has the signature, and no
 -- number in it is above a limit.
-use Prim.Native.Nat.{ℕ, _+_, _≤_, _<_}
+use Prim.Native.Nat.{ℕ, _+_, _≤_}
 use mathlib.Core.Path.{_≡_, refl, sym, ap, subst, _∙_}
 use mathlib.Core.Bool.{Bool, true, false, cond, not, _||_, true≢false}
 use mathlib.Core.List.{List, [], _∷_, _++_, map, append-nil, append-assoc}
@@ -9,13 +9,12 @@ use native.Mathlib.Omega.{arith}
 use lib.Dec.{ltb}
 use lib.ListN.{length, getD}
 use borrow.Author.Tests.{eqb-true, le-ltb, not-true}
-use Rattle.format.specs.Bytes.{lf}
 use Rattle.format.specs.Texts.{isEmpty}
 use Rattle.format.specs.Limits.{maxText}
 use Rattle.format.specs.Plain.{firstNotPlain, Plain}
 use Rattle.format.specs.RegionSettings.{RegionValues, lastNamed}
 use Rattle.format.specs.TimingLines.{timingLine}
-use Rattle.format.specs.Blocks.{holdsArrow, linesAt, bytesOf, blocks, hasSignature, joined}
+use Rattle.format.specs.Blocks.{linesAt, bytesOf, blocks, hasSignature, joined}
 use Rattle.format.specs.Lists.{Cue, Item, cue, region, cueOf, meaning, isCue, itemsFrom, items, into, listed, lists, itemOver, anyOver}
 use Rattle.format.specs.Rows.{ids, regionFor}
 use Rattle.format.specs.Contents.{CueContents, RegionContents, Contents, cueContents, regionContents, contents}
@@ -25,24 +24,14 @@ use Rattle.format.specs.Written.{styleLines, regionLines, writtenTiming, cueLin
 use Rattle.format.specs.Answers.{Answer, accepted, refused}
 use Rattle.format.specs.Reading.{reading, counts}
 use Rattle.format.specs.Writing.{orElse, firstIn, unlessFailing, writing}
-use Rattle.laws.proofs.Tests.{absent, and-left, and-right}
+use Rattle.laws.proofs.Tests.{and-left, and-right}
 use Rattle.laws.proofs.Standing.{All, bytes-lines}
 use Rattle.laws.proofs.Standing as Standing
 use Rattle.laws.proofs.Contents.{contents-same, over-same}
 use Rattle.roundtrip.proofs.Shape.{Block, fileOf, blocks-file, signature-file, cue-block, style-block, cue-means, style-means, none-fails}
-use Rattle.roundtrip.proofs.Cues.{Settable, regionName, settingsOf, timing-arrow, timing-line, TimingRead, timing-read, CueWritable, cue-writable}
+use Rattle.roundtrip.proofs.Cues.{regionName, settingsOf, timing-arrow, timing-line, TimingRead, timing-read, CueWritable, cue-writable}
 use Rattle.roundtrip.proofs.Regions.{Regional, regionLines-block, regionLines-mean, region-passes}
 use Rattle.roundtrip.proofs.Plain.{all-map, plain-written, rows-plain}
-
--- a cue that can be written, with these regions
-pub record Fine (rs : List RegionContents) (c : CueContents) : Type 0 where
-  pub settable : Settable rs c
-  pub start : c .start < 360_000_000_000
-  pub end : c .end < 360_000_000_000
-  pub line : absent lf (c .id) ≡ true
-  pub quiet : holdsArrow (c .id) ≡ false
-  pub text : isEmpty (c .text) || unbroken (c .text) ≡ true
-  pub region : regionAllowed (map (λ r. r .id) rs) (c .region) ≡ true
 
 -- what these blocks give, wherever they stand
 abbrev given : Bool → List (List (List ℕ)) → List Item
@@ -119,11 +108,11 @@ record CueRead (read : List RegionValues) (c : CueContents) (i : Item) : Type 0 
 cue-read :
     (rs : List RegionContents) (read : List RegionValues) (seen : Bool) (c : CueContents)
     → ids read ≡ map (λ r. r .id) rs
-    → Fine rs c
+    → CueWritable rs c
     → CueRead read c (meaning seen (linesAt 0 (cueLines rs c)))
 unfolding cueLines cueOf cueContents
 cue-read rs read seen c e f =
-    let m = cue-means seen 0 (c .id) (writtenTiming rs c) (c .text) (f .line) (f .quiet) (timing-arrow rs c) in
+    let m = cue-means seen 0 (c .id) (writtenTiming rs c) (c .text) (f .line) (f .plain) (timing-arrow rs c) in
     let l = m .line in
     let t : TimingRead rs c (timingLine l) =
     subst (λ b. TimingRead rs c (timingLine (record { place = l .place; bytes = b }))) (sym (m .timed))
@@ -137,7 +126,7 @@ cue-read rs read seen c e f =
 cues-give :
     (rs : List RegionContents) (read : List RegionValues) (seen : Bool) (cs : List CueContents)
     → ids read ≡ map (λ r. r .id) rs
-    → All (Fine rs) cs
+    → All (CueWritable rs) cs
     → Gives read (given seen (map (cueLines rs) cs)) cs
 unfolding itemsFrom listed into anyOver itemOver
 cues-give rs read seen [] e h = record { cues = refl; regions = refl; styles = refl; over = refl }
@@ -173,10 +162,10 @@ placed-bytes : (bs : List (List (List ℕ))) → map bytesOf (map (linesAt 0) bs
 placed-bytes [] = refl
 placed-bytes (b ∷ bs) = let e = bytes-lines 0 b in let f = placed-bytes bs in rw (e, f)
 
-fine-block : (rs : List RegionContents) (c : CueContents) → Fine rs c → Block (cueLines rs c)
+cue-blocks : (rs : List RegionContents) (c : CueContents) → CueWritable rs c → Block (cueLines rs c)
 unfolding cueLines
-fine-block rs c f =
-    cue-block (c .id) (writtenTiming rs c) (c .text) (f .line) (f .quiet) (timing-line rs c (f .settable)) (timing-arrow rs c) (f .text)
+cue-blocks rs c f =
+    cue-block (c .id) (writtenTiming rs c) (c .text) (f .line) (f .plain) (timing-line rs c (f .settable)) (timing-arrow rs c) (f .text)
 
 -- what holds of the file that is written of these lists
 pub record ReadBack (c : Contents) : Type 0 where
@@ -185,7 +174,7 @@ pub record ReadBack (c : Contents) : Type 0 where
   pub within : anyOver (items (written c)) ≡ false
   pub same : contents (lists (written c)) ≡ c
 
-module _ (c : Contents) (styles : All (λ t. unbroken t ≡ true) (c .styles)) (regions : All Regional (c .regions)) (cues : All (Fine (c .regions)) (c .cues)) where
+module _ (c : Contents) (styles : All (λ t. unbroken t ≡ true) (c .styles)) (regions : All Regional (c .regions)) (cues : All (CueWritable (c .regions)) (c .cues)) where
   abbrev one : List (List (List ℕ))
   one = map styleLines (c .styles)
 
@@ -201,7 +190,7 @@ module _ (c : Contents) (styles : All (λ t. unbroken t ≡ true) (c .styles)) (
       (Standing.all-append Block one two
       (all-map (λ t. unbroken t ≡ true) Block styleLines style-block (c .styles) styles)
       (all-map Regional Block regionLines regionLines-block (c .regions) regions))
-      (all-map (Fine (c .regions)) Block (cueLines (c .regions)) (fine-block (c .regions)) (c .cues) cues)
+      (all-map (CueWritable (c .regions)) Block (cueLines (c .regions)) (cue-blocks (c .regions)) (c .cues) cues)
 
   found : map bytesOf (blocks (fileOf (one ++ two ++ three))) ≡ map bytesOf (map (linesAt 0) (one ++ two ++ three))
   found = blocks-file (one ++ two ++ three) all-blocks ∙ sym (placed-bytes (one ++ two ++ three))
@@ -276,10 +265,6 @@ unfolding unlessFailing
 accepts none answer vs e = (refl, e)
 accepts (some us) answer vs e = let z : _≡_ {A = ℕ} 0 1 = cc in absurd (omega arith)
 
-fine-of : (s : List ℕ) (rows : List (List ℕ)) (w : List ℕ) → CueWritable s rows w → Fine (map (regionOfWords s) rows) (cueOfWords s w)
-fine-of s rows w h =
-    record { settable = h .settable; start = h .start; end = h .end; line = h .line; quiet = h .plain; text = h .text; region = h .region }
-
 style-passes : (s w : List ℕ) → styleFails s w ≡ none → unbroken (styleOfWords s w) ≡ true
 unfolding styleFails styleTest2 styleOfWords
 style-passes s w e = none-fails 1 (styleTest1 s w ∷ styleTest2 s w ∷ []) e .1 .0
@@ -316,16 +301,16 @@ round-trip s styles regions cues room vs e =
     let d = none-first 2 (cueFails s regions) 0 cues (last .0) in
     let texts = all-map (λ w. styleFails s w ≡ none) (λ t. unbroken t ≡ true) (styleOfWords s) (style-passes s) styles a in
     let known = all-map (λ w. regionFails s w ≡ none) Regional (regionOfWords s) (region-passes s) regions b in
-    let fine =
-    all-map (λ w. cueFails s regions w ≡ none) (Fine (map (regionOfWords s) regions)) (cueOfWords s)
-    (λ w q. fine-of s regions w (cue-writable s regions w q b)) cues d in
+    let known-cues =
+    all-map (λ w. cueFails s regions w ≡ none) (CueWritable (map (regionOfWords s) regions)) (cueOfWords s)
+    (λ w q. cue-writable s regions w q b) cues d in
     let plain =
     rows-plain s styles regions cues
     (each (λ w. styleFails s w ≡ none) (λ w. styleTest1 s w ≡ true) (style-test1 s) styles a)
     (each (λ w. regionFails s w ≡ none) (λ w. regionTest1 s w ≡ true) (region-test1 s) regions b)
     (each (λ w. cueFails s regions w ≡ none) (λ w. cueTest1 s w ≡ true) (cue-test1 s regions) cues d) in
     let c = contentsOfRows s styles regions cues in
-    read-back c texts known fine (plain-written c plain)
+    read-back c texts known known-cues (plain-written c plain)
 
 -- reading the file is refused by no number but 1 and 6
 pub reading-again :
