@@ -4,8 +4,8 @@ use Prim.Native.Nat.{ℕ, zero, suc, _+_, _/_, _%_}
 use mathlib.Core.Bool.{Bool, true, false, cond, _&&_}
 use mathlib.Core.List.{List, [], _∷_, _++_, map}
 use mathlib.Core.Option.{Option, none, some}
-use lib.Dec.{eqb}
-use lib.ListN.{getD}
+use lib.Dec.{eqb, leb}
+use lib.ListN.{length, getD}
 use Rattle.format.specs.Bytes.{ascii, lf, space, percent, comma, hyphen, fullStop, colon}
 use Rattle.format.specs.Texts.{isEmpty}
 use Rattle.format.specs.Lines.{split}
@@ -36,12 +36,7 @@ lastDigits (suc k) n = lastDigits k (n / 10) ++ (0x30 + n % 10) ∷ []
 -- digits without the zeros they begin with, but k of them at least
 unfoldable pub atLeast : ℕ → List ℕ → List ℕ
 atLeast k [] = []
-atLeast k (d ∷ ds) = cond (eqb d 0x30 && longer k ds) (atLeast k ds) (d ∷ ds)
-  where
-    longer : ℕ → List ℕ → Bool
-    longer zero ds = true
-    longer (suc k) [] = false
-    longer (suc k) (d ∷ ds) = longer k ds
+atLeast k (d ∷ ds) = cond (eqb d 0x30 && leb k (length ds)) (atLeast k ds) (d ∷ ds)
 
 -- a number in k digits at least; no word of a row has more than twenty
 unfoldable pub decimalIn : ℕ → ℕ → List ℕ

@@ -108,9 +108,9 @@ digits-value (suc k) n h =
     let front = digits-value k (n / 10) (omega arith) in
     number-append 0 (lastDigits k (n / 10)) ((0x30 + n % 10) ∷ []) ∙ omega arith
 
--- what stands at the start is dropped where a test allows it, and it is a zero then
-either : (P : List ℕ → Type 0) (a b : Bool) (x y : List ℕ) → (a ≡ true → P x) → P y → P (cond (a && b) x y)
-either P true true x y f g = f refl
+-- what stands at the start is dropped where both tests allow it
+either : (P : List ℕ → Type 0) (a b : Bool) (x y : List ℕ) → (a ≡ true → b ≡ true → P x) → P y → P (cond (a && b) x y)
+either P true true x y f g = f refl refl
 either P true false x y f g = g
 either P false b x y f g = g
 
@@ -119,49 +119,27 @@ unfolding atLeast numberFrom
 atLeast-value k [] = refl
 atLeast-value k (d ∷ ds) =
     either (λ r. number r ≡ number (d ∷ ds)) (eqb d 0x30) _ (atLeast k ds) (d ∷ ds)
-    (λ y. rw (eqb-true d 0x30 y) (atLeast-value k ds)) refl
+    (λ y _. rw (eqb-true d 0x30 y) (atLeast-value k ds)) refl
 
 atLeast-all : (p : ℕ → Bool) (k : ℕ) (ds : List ℕ) → all p ds ≡ true → all p (atLeast k ds) ≡ true
 unfolding atLeast all
 atLeast-all p k [] f = refl
 atLeast-all p k (d ∷ ds) f =
     either (λ r. all p r ≡ true) (eqb d 0x30) _ (atLeast k ds) (d ∷ ds)
-    (λ y. atLeast-all p k ds (and-right (p d) (all p ds) f)) f
+    (λ _ _. atLeast-all p k ds (and-right (p d) (all p ds) f)) f
 
 atLeast-shorter : (k : ℕ) (ds : List ℕ) → length (atLeast k ds) ≤ length ds
 unfolding atLeast
 atLeast-shorter k [] = omega arith
 atLeast-shorter k (d ∷ ds) =
-    either (λ r. length r ≤ suc (length ds)) (eqb d 0x30) _ (atLeast k ds) (d ∷ ds) (λ y. omega (arith, atLeast-shorter k ds)) (omega arith)
-
-shorter-too :
-    (a b : Bool) (x y u v : List ℕ)
-    → length (cond (a && b) x y) < length y
-    → length u < length v
-    → length (cond (a && b) u v) < length v
-shorter-too true true x y u v l g = g
-shorter-too true false x y u v l g = absurd (omega arith)
-shorter-too false b x y u v l g = absurd (omega arith)
-
--- a digit is dropped only before k others
-atLeast-dropped : (k d : ℕ) (ds : List ℕ) → length (atLeast k (d ∷ ds)) < length (d ∷ ds) → k ≤ length ds
-unfolding atLeast
-atLeast-dropped zero d ds l = omega arith
-atLeast-dropped (suc k) d [] l = let kept : 1 < 1 = rw (and-false (eqb d 0x30) false refl) at l in absurd (omega arith)
-atLeast-dropped (suc k) d (e ∷ ds) l =
-    let less : length (atLeast k ds) < length (d ∷ ds) = omega (arith, atLeast-shorter k ds) in
-    let also = shorter-too (eqb d 0x30) _ (atLeast (suc k) (e ∷ ds)) (d ∷ e ∷ ds) (atLeast k ds) (d ∷ ds) l less in
-    omega (arith, atLeast-dropped k d ds also)
+    either (λ r. length r ≤ suc (length ds)) (eqb d 0x30) _ (atLeast k ds) (d ∷ ds) (λ _ _. omega (arith, atLeast-shorter k ds)) (omega arith)
 
 atLeast-length : (k : ℕ) (ds : List ℕ) → k ≤ length ds → k ≤ length (atLeast k ds)
 unfolding atLeast
 atLeast-length k [] h = h
 atLeast-length k (d ∷ ds) h =
-    by-test (ltb (length (atLeast k (d ∷ ds))) (length (d ∷ ds)))
-    (λ y. let l = ltb-true (length (atLeast k (d ∷ ds))) (length (d ∷ ds)) y in
-    either (λ r. k ≤ length r) (eqb d 0x30) _ (atLeast k ds) (d ∷ ds)
-    (λ z. atLeast-length k ds (atLeast-dropped k d ds l)) h)
-    (λ n. let l = ltb-false (length (atLeast k (d ∷ ds))) (length (d ∷ ds)) n in omega arith)
+    either (λ r. k ≤ length r) (eqb d 0x30) (leb k (length ds)) (atLeast k ds) (d ∷ ds)
+    (λ _ l. atLeast-length k ds (leb-true k (length ds) l)) h
 
 -- a number in k digits at least
 pub decimal-value : (k n : ℕ) → n < 10 ^ 20 → number (decimalIn k n) ≡ n
@@ -195,14 +173,6 @@ number-most n (d ∷ ds) f =
     let more = mul-le-mul-right (10 ^ length ds) step in
     rw (pow-succ' 10 (length ds)) (omega (arith, number-most (n * 10 + (d - 0x30)) ds (and-right (digit d) (all digit ds) f)))
 
-atLeast-drops : (k d : ℕ) (ds : List ℕ) → eqb d 0x30 ≡ true → k ≤ length ds → length (atLeast k (d ∷ ds)) < length (d ∷ ds)
-unfolding atLeast
-atLeast-drops zero d ds z h = rw z (omega (arith, atLeast-shorter zero ds))
-atLeast-drops (suc k) d [] z h = absurd (omega arith)
-atLeast-drops (suc k) d (e ∷ ds) z h =
-    shorter-too (eqb d 0x30) _ (atLeast k ds) (d ∷ ds) (atLeast (suc k) (e ∷ ds)) (d ∷ e ∷ ds)
-    (atLeast-drops k d ds z (omega arith)) (omega (arith, atLeast-shorter (suc k) (e ∷ ds)))
-
 -- more than k digits are left only of a number that has them
 atLeast-lean : (k : ℕ) (ds : List ℕ) → all digit ds ≡ true → k < length (atLeast k ds) → 10 ^ k ≤ number ds
 unfolding atLeast numberFrom all digit
@@ -210,9 +180,8 @@ atLeast-lean k [] f l = absurd (omega arith)
 atLeast-lean k (d ∷ ds) f l =
     let h : k ≤ length ds = omega (arith, atLeast-shorter k (d ∷ ds)) in
     by-test (eqb d 0x30)
-    (λ z. rw (eqb-true d 0x30 z)
-    (either (λ r. length r < length (d ∷ ds) → k < length r → 10 ^ k ≤ number ds) (eqb d 0x30) _ (atLeast k ds) (d ∷ ds)
-    (λ y g m. atLeast-lean k ds (and-right (digit d) (all digit ds) f) m) (λ g m. absurd (omega arith)) (atLeast-drops k d ds z h) l))
+    (λ z. let m : k < length (atLeast k ds) = rw (z, le-leb k (length ds) h) at l in
+    rw (eqb-true d 0x30 z) (atLeast-lean k ds (and-right (digit d) (all digit ds) f) m))
     (λ n. let low = leb-true 0x30 d (and-left (leb 0x30 d) (leb d 0x39) (and-left (digit d) (all digit ds) f)) in
     let one : 1 ≤ d - 0x30 = omega (arith, eqb-false d 0x30 n) in
     let more = mul-le-mul-right (10 ^ length ds) one in
@@ -316,7 +285,7 @@ withoutZeros-all : (p : ℕ → Bool) (ds : List ℕ) → all p ds ≡ true → 
 unfolding withoutZeros onDigit all
 withoutZeros-all p [] f = refl
 withoutZeros-all p (d ∷ ds) f =
-    either (λ r. all p r ≡ true) (eqb d 0x30) (isEmpty (withoutZeros ds)) [] (d ∷ withoutZeros ds) (λ y. refl)
+    either (λ r. all p r ≡ true) (eqb d 0x30) (isEmpty (withoutZeros ds)) [] (d ∷ withoutZeros ds) (λ _ _. refl)
     (and-both (p d) (all p (withoutZeros ds)) (and-left (p d) (all p ds) f) (withoutZeros-all p ds (and-right (p d) (all p ds) f)))
 
 padded : (n : ℕ) (ds : List ℕ) → length ds ≤ n → take (length ds) (withoutZeros ds ++ replicate n 0x30) ≡ ds

@@ -1,0 +1,3 @@
+-- Laws that this crate's proofs, and those of the crates that put bytes, cite.
+pub mod PutLaws
+pub mod DigitLaws

@@ -1,0 +1,146 @@
+// Bytes, numbers and times put into an output room. A room that is too short stores what fits; the place that each function hands back goes
+// on all the same, up to the first number above the greatest length of a file.
+ghost use mathlib.Core.Path.{_≡_};
+ghost use mathlib.Core.List.{[], _∷_};
+ghost use Prim.Native.Nat.{_+_, _/_, _%_, _^_, _<_, _≤_};
+ghost use lib.ListN.{set};
+ghost use Rattle.format.specs.Written.{lastDigits, atLeast, decimalIn, writtenTime, withoutZeros, fraction, writtenDecimal, writtenPercentage};
+ghost use Rattle.output.specs.Puts.{Puts};
+
+// Stores a byte at a place; nothing outside the room.
+fn store(b: u8, out: &mut [u8], at: usize)
+    ensures { λ _. ⌜ now (out .exit) ≡ set (now (out .entry)) at b ⌝ }
+{
+    if at < out.len() {
+        out[at] = b;
+    }
+}
+
+// One byte.
+pub fn byte(b: u8, out: &mut [u8], at: usize) -> usize
+    ensures { λ r. ⌜ Puts (b ∷ []) at (now (out .entry)) r (now (out .exit)) ⌝ }
+{
+    store(b, out, at);
+    if at <= format::MAX_FILE {
+        return at + 1;
+    }
+    at
+}
+
+// A text.
+pub fn bytes(s: &[u8], out: &mut [u8], at: usize) -> usize
+    ensures { λ r. ⌜ Puts (now (s .entry)) at (now (out .entry)) r (now (out .exit)) ⌝ }
+{
+    let mut i = 0;
+    let mut n = at;
+    while i < s.len() {
+        n = byte(s[i], out, n);
+        i += 1;
+    }
+    n
+}
+
+// A power of ten.
+fn power(k: usize) -> u64
+    requires { ⌜ k < 20 ⌝ }
+    ensures { λ r. ⌜ r ≡ 10 ^ k ⌝ }
+{
+    let mut p = 1;
+    let mut i = 0;
+    while i < k {
+        p *= 10;
+        i += 1;
+    }
+    p
+}
+
+// The digit of a number that has `k` digits behind it.
+fn digit(n: u64, k: usize) -> u8
+    requires { ⌜ k < 20 ⌝ }
+    ensures { λ r. ⌜ r ≡ 0x30 + n / 10 ^ k % 10 ⌝ }
+{
+    let p = power(k);
+    let d = n / p % 10;
+    b'0' + d as u8
+}
+
+// The last `k` digits of a number.
+fn digits(k: usize, n: u64, out: &mut [u8], at: usize) -> usize
+    requires { ⌜ k ≤ 20 ⌝ }
+    ensures { λ r. ⌜ Puts (lastDigits k n) at (now (out .entry)) r (now (out .exit)) ⌝ }
+{
+    let mut left = k;
+    let mut to = at;
+    while 0 < left {
+        left -= 1;
+        to = byte(digit(n, left), out, to);
+    }
+    to
+}
+
+// How many digits a number has, `least` of them counted where it has fewer.
+fn width(least: usize, n: u64) -> usize
+    ensures { λ r. ⌜ (r ≤ 20) × (atLeast least (lastDigits 20 n) ≡ lastDigits r n) ⌝ }
+{
+    let mut w: usize = 20;
+    while least < w {
+        if digit(n, w - 1) != b'0' {
+            return w;
+        }
+        w -= 1;
+    }
+    w
+}
+
+// A number in so many digits at least.
+pub fn number(least: usize, n: u64, out: &mut [u8], at: usize) -> usize
+    ensures { λ r. ⌜ Puts (decimalIn least n) at (now (out .entry)) r (now (out .exit)) ⌝ }
+{
+    digits(width(least, n), n, out, at)
+}
+
+// A full stop and the six digits of a fraction without the zeros that they end with; nothing where all are zeros.
+fn fraction_of(millionths: u64, out: &mut [u8], at: usize) -> usize
+    ensures { λ r. ⌜ Puts (fraction (withoutZeros (lastDigits 6 millionths))) at (now (out .entry)) r (now (out .exit)) ⌝ }
+{
+    let mut k: usize = 6;
+    let mut rest = millionths;
+    while 0 < k {
+        if rest % 10 != 0 {
+            let to = byte(b'.', out, at);
+            return digits(k, rest, out, to);
+        }
+        rest /= 10;
+        k -= 1;
+    }
+    at
+}
+
+// A number of millionths, without trailing zeros.
+pub fn decimal(millionths: u64, out: &mut [u8], at: usize) -> usize
+    ensures { λ r. ⌜ Puts (writtenDecimal millionths) at (now (out .entry)) r (now (out .exit)) ⌝ }
+{
+    let to = number(1, millionths / 1_000_000, out, at);
+    fraction_of(millionths % 1_000_000, out, to)
+}
+
+// A percentage.
+pub fn percentage(millionths: u64, out: &mut [u8], at: usize) -> usize
+    ensures { λ r. ⌜ Puts (writtenPercentage millionths) at (now (out .entry)) r (now (out .exit)) ⌝ }
+{
+    let to = decimal(millionths, out, at);
+    byte(b'%', out, to)
+}
+
+// A time, in milliseconds.
+pub fn time(ms: u64, out: &mut [u8], at: usize) -> usize
+    ensures { λ r. ⌜ Puts (writtenTime ms) at (now (out .entry)) r (now (out .exit)) ⌝ }
+{
+    let hours = number(2, ms / 3_600_000, out, at);
+    let colon = byte(b':', out, hours);
+    let minutes = digits(2, ms / 60_000 % 60, out, colon);
+    let second_colon = byte(b':', out, minutes);
+    let seconds = digits(2, ms / 1_000 % 60, out, second_colon);
+    let stop = byte(b'.', out, seconds);
+    digits(3, ms % 1_000, out, stop)
+}
