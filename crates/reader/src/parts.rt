@@ -22,7 +22,7 @@ fn is_plain(part: &[u8]) -> bool
 }
 
 // Is the part from one place up to another inside the text, and plain.
-fn part_plain(text: &[u8], from: usize, to: usize) -> bool
+pub fn part_plain(text: &[u8], from: usize, to: usize) -> bool
     ensures { λ r. ⌜ r ≡ partPlain (now (text .entry)) from to ⌝ }
 {
     if to < from {
@@ -44,7 +44,7 @@ fn codes_named(row: [u64; 17]) -> bool
 }
 
 // A cue's test 1, of its row.
-fn test_1(text: &[u8], row: [u64; 17]) -> bool
+pub fn test_1(text: &[u8], row: [u64; 17]) -> bool
     ensures { λ r. ⌜ r ≡ cueTest1 (now (text .entry)) row ⌝ }
 {
     if !part_plain(text, row[0] as usize, row[1] as usize) {

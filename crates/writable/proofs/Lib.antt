@@ -1,0 +1,4 @@
+-- Laws that this crate's proofs cite.
+pub mod TextLaws
+pub mod NameLaws
+pub mod FaultLaws

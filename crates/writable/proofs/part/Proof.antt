@@ -1,0 +1,35 @@
+-- `writable::part` meets its contract.
+use mathlib.Core.Path.{sym, _∙_}
+use Rattle.rows.proofs.NameLaws.{part-bytes}
+use Rattle.writable.proofs.NameLaws.{bytesAt-partOf}
+use borrow.Author.Needs.{needs}
+use Rattle.writable.proofs.part.Statement.{statement}
+use Rattle.writable.proofs.part.Tie as tie
+
+least-requires : tie.Need-least-requires
+least-requires c κs = search needs
+
+least-requires-2 : tie.Need-least-requires-2
+least-requires-2 c κs = search needs
+
+sub-result : tie.Need-sub-result
+sub-result c = search needs
+
+part-result-start : tie.Need-part-result-start
+part-result-start c = search needs
+
+part-result-end : tie.Need-part-result-end
+part-result-end c = search needs
+
+returns : tie.Need-returns
+returns c =
+    let start = c .before in
+    let end = start .before in
+    let a = end .before .before .args in
+    part-bytes (a .text .now) (a .from) (a .to) (end .least .result) (start .least2 .result) (end .least .ensures) (start .least2 .ensures)
+    ∙ sym (bytesAt-partOf (a .text .now) (a .from) (a .to))
+
+pub part-spec : {M : Type 1} → statement M
+part-spec =
+    tie.close
+    (tie.spec least-requires least-requires-2 sub-result part-result-start part-result-end returns)
