@@ -349,7 +349,7 @@ unfolding bytesOf linesAt
 bytes-lines p [] = refl
 bytes-lines p (l ∷ ls) = ap (λ r. l ∷ r) (bytes-lines (p + suc (length l)) ls)
 
-ended-append : (a b : List (List ℕ)) → endedLines (a ++ b) ≡ endedLines a ++ endedLines b
+pub ended-append : (a b : List (List ℕ)) → endedLines (a ++ b) ≡ endedLines a ++ endedLines b
 unfolding endedLines
 ended-append [] b = refl
 ended-append (l ∷ a) b =

@@ -642,7 +642,7 @@ position-fits s w f =
     (λ y. let g : eqb (word 13 w) 0 ≡ true = rw y at f in rw (y, g) autoPosition)
     (λ n. let g : leb (word 12 w) 100_000_000 ≡ true = rw n at f in rw n (positionAt (leb-true (word 12 w) 100_000_000 g)))
 
-names-of : (s : List ℕ) (rows : List (List ℕ)) → map (λ r. r .id) (map (regionOfWords s) rows) ≡ map (λ r. bytesAt s (word 0 r) (word 1 r)) rows
+pub names-of : (s : List ℕ) (rows : List (List ℕ)) → map (λ r. r .id) (map (regionOfWords s) rows) ≡ map (λ r. bytesAt s (word 0 r) (word 1 r)) rows
 unfolding regionOfWords
 names-of s [] = refl
 names-of s (r ∷ rows) = rw (names-of s rows)

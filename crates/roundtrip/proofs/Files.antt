@@ -100,12 +100,12 @@ record Gives (read : List RegionValues) (is : List Item) (cs : List CueContents)
   over : anyOver is ≡ false
 
 -- one written cue
-record CueRead (read : List RegionValues) (c : CueContents) (i : Item) : Type 0 where
-  values : Cue
-  is : i ≡ cue values false
-  same : cueContents read values ≡ c
+pub record CueRead (read : List RegionValues) (c : CueContents) (i : Item) : Type 0 where
+  pub values : Cue
+  pub is : i ≡ cue values false
+  pub same : cueContents read values ≡ c
 
-cue-read :
+pub cue-read :
     (rs : List RegionContents) (read : List RegionValues) (seen : Bool) (c : CueContents)
     → ids read ≡ map (λ r. r .id) rs
     → CueWritable rs c
@@ -136,7 +136,7 @@ cues-give rs read seen (c ∷ cs) e h =
     rw (first .is)
     (record { cues = rw (first .same, more .cues); regions = more .regions; styles = more .styles; over = more .over })
 
-ids-contents : (read : List RegionValues) → ids read ≡ map (λ r. r .id) (map regionContents read)
+pub ids-contents : (read : List RegionValues) → ids read ≡ map (λ r. r .id) (map regionContents read)
 unfolding ids regionContents
 ids-contents [] = refl
 ids-contents (r ∷ read) = ap (λ x. r .id .bytes ∷ x) (ids-contents read)

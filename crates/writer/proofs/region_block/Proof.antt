@@ -1,0 +1,41 @@
+-- `writer::region_block` meets its contract.
+use mathlib.Core.Path.{ap}
+use Rattle.format.specs.Lines.{join}
+use Rattle.format.specs.Written.{regionLines}
+use Rattle.format.specs.Writable.{regionOfWords}
+use Rattle.output.proofs.PutLaws.{puts-as, byte-then, _then_}
+use Rattle.writer.specs.Forms.{blockForm, recordContents}
+use borrow.Author.Needs.{needs}
+use Rattle.writer.proofs.region_block.Statement.{statement}
+use Rattle.writer.proofs.region_block.Tie as tie
+
+byte-requires : tie.Need-byte-requires
+byte-requires c κs = search needs
+
+region-of-requires : tie.Need-region-of-requires
+region-of-requires c κs = search needs
+
+region-requires : tie.Need-region-requires
+region-requires c κs = search needs
+
+byte-requires-2 : tie.Need-byte-requires-2
+byte-requires-2 c κs = search needs
+
+same-length : tie.Need-same-length
+same-length c = search needs
+
+returns : tie.Need-returns
+unfolding blockForm recordContents regionOfWords
+returns c =
+    let end = c .before .before in
+    let block = end .before .before .before .before in
+    let start = block .before .before .before .before .before in
+    let read = block .before .before in
+    let args = start .before .before .before .before .args in
+    let put = puts-as (ap (λ r. join (regionLines (recordContents (args .text .now) r))) (read .region-of .ensures)) (block .region .ensures) in
+    byte-then (start .byte .ensures) (put then end .byte2 .ensures)
+
+pub region-block-spec : {M : Type 1} → statement M
+region-block-spec =
+    tie.close
+    (tie.spec byte-requires region-of-requires region-requires byte-requires-2 same-length returns)

@@ -1,0 +1,145 @@
+// Writing lists to a file: what is writable is tested, the file is measured, and then it is written. Any rows are taken, over any text, and
+// nothing is asked of the caller.
+mod checking;
+mod forms;
+mod settings;
+
+use checking::Checked;
+use format::Writing;
+use output::byte;
+use output::bytes;
+ghost use mathlib.Core.Path.{_≡_};
+ghost use mathlib.Core.List.{map};
+ghost use lib.ListN.{length};
+ghost use Rattle.format.specs.Writable.{cueOfWords, regionOfWords, styleOfWords};
+ghost use Rattle.format.specs.Written.{styleLines, regionLines, cueLines, apart, lineEnded};
+ghost use Rattle.format.specs.Writing.{writingIs, fileOf, writing, writtenRoom};
+ghost use Rattle.output.specs.Puts.{Puts};
+ghost use Rattle.writer.specs.Forms.{asked, cueForm, blockForm};
+
+// The file that rows over a text give, at the start of the output room.
+pub fn write(
+    text: &[u8],
+    styles: &[[u64; 2]],
+    regions: &[[u64; 9]],
+    cues: &[[u64; 17]],
+    out: &mut [u8],
+) -> Writing
+    ensures answer { λ r. ⌜ writingIs r ≡ writing (now (text .entry)) (now (styles .entry)) (now (regions .entry)) (now (cues .entry)) (length (now (out .entry))) ⌝ }
+    ensures out { λ r. ⌜ now (out .exit) ≡ writtenRoom (now (text .entry)) (now (styles .entry)) (now (regions .entry)) (now (cues .entry)) (now (out .entry)) ⌝ }
+{
+    if let Checked::NotWritable { list, index, test } = checking::check(
+        text,
+        styles,
+        regions,
+        cues,
+    ) {
+        return Writing::NotWritable { list, index, test };
+    }
+    let mut nothing = [0u8; 1];
+    let need = put_file(text, styles, regions, cues, &mut nothing);
+    if format::MAX_FILE < need {
+        return Writing::FileTooLong;
+    }
+    if out.len() < need {
+        return Writing::OutTooShort(need);
+    }
+    Writing::File(put_file(text, styles, regions, cues, out))
+}
+
+// One cue's written form without a last line end, put into the output room from a place on: its row over a text, and the name of the region
+// it asks for, if it asks for one.
+pub fn cue_form(
+    text: &[u8],
+    row: [u64; 17],
+    asks: bool,
+    name: &[u8],
+    out: &mut [u8],
+    at: usize,
+) -> usize
+    ensures { λ r. ⌜ Puts (cueForm (now (text .entry)) row (asked asks (now (name .entry)))) at (now (out .entry)) r (now (out .exit)) ⌝ }
+{
+    forms::cue_named(text, row, asks, name, out, at)
+}
+
+fn put_file(
+    text: &[u8],
+    styles: &[[u64; 2]],
+    regions: &[[u64; 9]],
+    cues: &[[u64; 17]],
+    out: &mut [u8],
+) -> usize
+    ensures { λ r. ⌜ Puts (fileOf (now (text .entry)) (now (styles .entry)) (now (regions .entry)) (now (cues .entry))) 0 (now (out .entry)) r (now (out .exit)) ⌝ }
+{
+    let first = bytes(b"WEBVTT\n", out, 0);
+    let second = put_styles(text, styles, out, first);
+    let third = put_regions(text, regions, out, second);
+    put_cues(text, regions, cues, out, third)
+}
+
+// A style's block: an empty line before it, its last line ended.
+fn style_block(text: &[u8], row: [u64; 2], out: &mut [u8], at: usize) -> usize
+    ensures { λ r. ⌜ Puts (blockForm (styleLines (styleOfWords (now (text .entry)) row))) at (now (out .entry)) r (now (out .exit)) ⌝ }
+{
+    let start = byte(b'\n', out, at);
+    let end = forms::style(text, row, out, start);
+    byte(b'\n', out, end)
+}
+
+fn region_block(text: &[u8], row: [u64; 9], out: &mut [u8], at: usize) -> usize
+    ensures { λ r. ⌜ Puts (blockForm (regionLines (regionOfWords (now (text .entry)) row))) at (now (out .entry)) r (now (out .exit)) ⌝ }
+{
+    let start = byte(b'\n', out, at);
+    let end = forms::region(text, forms::region_of(row), out, start);
+    byte(b'\n', out, end)
+}
+
+fn cue_block(text: &[u8], regions: &[[u64; 9]], row: [u64; 17], out: &mut [u8], at: usize) -> usize
+    ensures { λ r. ⌜ Puts (blockForm (cueLines (map (regionOfWords (now (text .entry))) (now (regions .entry))) (cueOfWords (now (text .entry)) row))) at (now (out .entry)) r (now (out .exit)) ⌝ }
+{
+    let start = byte(b'\n', out, at);
+    let end = forms::cue(text, regions, row, out, start);
+    byte(b'\n', out, end)
+}
+
+fn put_styles(text: &[u8], styles: &[[u64; 2]], out: &mut [u8], at: usize) -> usize
+    ensures { λ r. ⌜ Puts (lineEnded (apart (map (λ row. styleLines (styleOfWords (now (text .entry)) row)) (now (styles .entry))))) at (now (out .entry)) r (now (out .exit)) ⌝ }
+{
+    let mut i = 0;
+    let mut to = at;
+    while i < styles.len() {
+        to = style_block(text, styles[i], out, to);
+        i += 1;
+    }
+    to
+}
+
+fn put_regions(text: &[u8], regions: &[[u64; 9]], out: &mut [u8], at: usize) -> usize
+    ensures { λ r. ⌜ Puts (lineEnded (apart (map (λ row. regionLines (regionOfWords (now (text .entry)) row)) (now (regions .entry))))) at (now (out .entry)) r (now (out .exit)) ⌝ }
+{
+    let mut i = 0;
+    let mut to = at;
+    while i < regions.len() {
+        to = region_block(text, regions[i], out, to);
+        i += 1;
+    }
+    to
+}
+
+fn put_cues(
+    text: &[u8],
+    regions: &[[u64; 9]],
+    cues: &[[u64; 17]],
+    out: &mut [u8],
+    at: usize,
+) -> usize
+    ensures { λ r. ⌜ Puts (lineEnded (apart (map (λ row. cueLines (map (regionOfWords (now (text .entry))) (now (regions .entry))) (cueOfWords (now (text .entry)) row)) (now (cues .entry))))) at (now (out .entry)) r (now (out .exit)) ⌝ }
+{
+    let mut i = 0;
+    let mut to = at;
+    while i < cues.len() {
+        to = cue_block(text, regions, cues[i], out, to);
+        i += 1;
+    }
+    to
+}
