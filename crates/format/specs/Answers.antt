@@ -13,6 +13,10 @@ unfoldable pub ifAccepted {ℓ} : {A : Type ℓ} → Answer → A → A → A
 ifAccepted (accepted vs) a b = a
 ifAccepted (refused n vs) a b = b
 
+-- the next answer where this one accepts
+unfoldable pub andThen : Answer → Answer → Answer
+andThen answer next = ifAccepted answer next answer
+
 -- lent room with a text at its start, its bytes beyond that text as they were;
 -- or a lent table with rows at its start
 unfoldable pub placed {ℓ} : {A : Type ℓ} → List A → List A → List A

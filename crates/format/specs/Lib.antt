@@ -22,3 +22,5 @@ pub mod Converting
 pub mod Reading
 pub mod Parts
 pub mod Writing
+pub mod Rewriting
+pub mod Replacing

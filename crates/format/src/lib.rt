@@ -77,3 +77,35 @@ pub enum Writing {
     // Refusal 10: the output room is shorter than the file, which needs this many bytes.
     OutTooShort(usize),
 }
+
+// What rewriting a raw file answers.
+pub enum Rewriting {
+    // The written form of what the file reads as stands at the start of the output room, this many bytes long.
+    File(usize),
+    // The first refusal of converting, reading or writing.
+    Refused(u64),
+}
+
+// What replacing one cue of a raw file answers.
+pub enum Replacing {
+    // The new file stands at the start of the output room, this many bytes long.
+    File(usize),
+    // Refusal 1: the raw file is over MAX_FILE bytes.
+    RawTooLong,
+    // Refusal 2: the scratch room is shorter than the plain text, which needs this many bytes.
+    ScratchTooShort(usize),
+    // Refusal 4.
+    NoSignature,
+    // Refusal 5: a number is above its limit.
+    OverLimit,
+    // Refusal 7: the cue number is not below this count.
+    NoSuchCue(usize),
+    // Refusal 8: the cue number, and the first test that the new cue fails.
+    NotWritable { number: usize, test: usize },
+    // Refusal 9: the new identifier is not empty, and neither is the line before the cue's first line.
+    NoGap,
+    // Refusal 1: the new file is over MAX_FILE bytes.
+    FileTooLong,
+    // Refusal 10: the output room is shorter than the new file, which needs this many bytes.
+    OutTooShort(usize),
+}
