@@ -13,7 +13,7 @@ use Rattle.format.specs.Writing.{fileOf}
 use Rattle.format.specs.Written.{writtenTiming, linesOf, cueLines, regionLines, styleLines, apart, fileLines, lineEnded, written}
 use Rattle.output.specs.Puts.{Puts}
 use Rattle.output.proofs.PutLaws.{puts-none, puts-as, _then_}
-use Rattle.writer.specs.Forms.{blockForm}
+use Rattle.writer.specs.Blocks.{blockForm}
 
 lineEnded-append : (xs ys : List (List ℕ)) → lineEnded (xs ++ ys) ≡ lineEnded xs ++ lineEnded ys
 unfolding lineEnded

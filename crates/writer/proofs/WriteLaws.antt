@@ -14,7 +14,7 @@ use Rattle.format.specs.Writing.{firstIn, unlessFailing, fileOf, writing, writt
 use Rattle.laws.proofs.Tests.{by-test}
 use Rattle.output.specs.Puts.{Puts}
 use Rattle.output.proofs.PutLaws.{measured, measured-above, stands}
-use Rattle.writer.specs.Forms.{unless}
+use Rattle.writer.specs.Blocks.{unless}
 use Rattle.writer.specs.declared.checking.Checked.{Checked}
 use Rattle.writer.specs.declared.checking.Checked.the-variants as Checked
 

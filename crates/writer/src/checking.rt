@@ -4,7 +4,7 @@ ghost use mathlib.Core.Path.{_≡_};
 ghost use Rattle.format.specs.Answers.{Answer};
 ghost use Rattle.format.specs.Writable.{styleFails, regionFails, cueFails};
 ghost use Rattle.format.specs.Writing.{firstIn, unlessFailing};
-ghost use Rattle.writer.specs.Forms.{unless};
+ghost use Rattle.writer.specs.Blocks.{unless};
 
 pub enum Checked {
     Writable,

@@ -1,8 +1,6 @@
 // Writing lists to a file: what is writable is tested, the file is measured, and then it is written. Any rows are taken, over any text, and
 // nothing is asked of the caller.
 mod checking;
-mod forms;
-mod settings;
 
 use checking::Checked;
 use format::Writing;
@@ -15,7 +13,7 @@ ghost use Rattle.format.specs.Writable.{cueOfWords, regionOfWords, styleOfWords
 ghost use Rattle.format.specs.Written.{styleLines, regionLines, cueLines, apart, lineEnded};
 ghost use Rattle.format.specs.Writing.{writingIs, fileOf, writing, writtenRoom};
 ghost use Rattle.output.specs.Puts.{Puts};
-ghost use Rattle.writer.specs.Forms.{asked, cueForm, blockForm};
+ghost use Rattle.writer.specs.Blocks.{blockForm};
 
 // The file that rows over a text give, at the start of the output room.
 pub fn write(
@@ -45,21 +43,6 @@ pub fn write(
         return Writing::OutTooShort(need);
     }
     Writing::File(put_file(text, styles, regions, cues, out))
-}
-
-// One cue's written form without a last line end, put into the output room from a place on: its row over a text, and the name of the region
-// it asks for, if it asks for one.
-pub fn cue_form(
-    text: &[u8],
-    row: [u64; 17],
-    asks: bool,
-    name: &[u8],
-    out: &mut [u8],
-    at: usize,
-) -> usize
-    ensures { λ r. ⌜ Puts (cueForm (now (text .entry)) row (asked asks (now (name .entry)))) at (now (out .entry)) r (now (out .exit)) ⌝ }
-{
-    forms::cue_named(text, row, asks, name, out, at)
 }
 
 fn put_file(

@@ -1,6 +1,6 @@
 -- `writer::cue_block` meets its contract.
 use Rattle.output.proofs.PutLaws.{byte-then, _then_}
-use Rattle.writer.specs.Forms.{blockForm}
+use Rattle.writer.specs.Blocks.{blockForm}
 use borrow.Author.Needs.{needs}
 use Rattle.writer.proofs.cue_block.Statement.{statement}
 use Rattle.writer.proofs.cue_block.Tie as tie

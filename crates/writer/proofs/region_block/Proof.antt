@@ -4,7 +4,8 @@ use Rattle.format.specs.Lines.{join}
 use Rattle.format.specs.Written.{regionLines}
 use Rattle.format.specs.Writable.{regionOfWords}
 use Rattle.output.proofs.PutLaws.{puts-as, byte-then, _then_}
-use Rattle.writer.specs.Forms.{blockForm, recordContents}
+use Rattle.forms.specs.Forms.{recordContents}
+use Rattle.writer.specs.Blocks.{blockForm}
 use borrow.Author.Needs.{needs}
 use Rattle.writer.proofs.region_block.Statement.{statement}
 use Rattle.writer.proofs.region_block.Tie as tie

@@ -1,6 +1,6 @@
 -- `writer::style_block` meets its contract.
 use Rattle.output.proofs.PutLaws.{byte-then, _then_}
-use Rattle.writer.specs.Forms.{blockForm}
+use Rattle.writer.specs.Blocks.{blockForm}
 use borrow.Author.Needs.{needs}
 use Rattle.writer.proofs.style_block.Statement.{statement}
 use Rattle.writer.proofs.style_block.Tie as tie

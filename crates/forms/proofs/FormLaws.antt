@@ -1,0 +1,79 @@
+-- Laws of the written forms: lines one behind another, a setting on a line of its own, a cue among its regions, and a region.
+use Prim.Native.Nat.{ℕ, _-_}
+use mathlib.Core.Path.{_≡_, refl, sym, ap, _∙_}
+use mathlib.Core.Bool.{cond}
+use mathlib.Core.List.{List, [], _∷_, _++_, map, append-assoc, append-nil}
+use mathlib.Core.Option.{none, some}
+use lib.ListN.{getD}
+use borrow.Author.Tests.{ne-eqb}
+use Rattle.format.specs.Bytes.{ascii, lf, colon}
+use Rattle.format.specs.Texts.{isEmpty}
+use Rattle.format.specs.Lines.{split, endedLines, join}
+use Rattle.format.specs.Rows.{word}
+use Rattle.format.specs.Parts.{bytesAt}
+use Rattle.format.specs.Writable.{optionOf, cueOfWords, regionOfWords}
+use Rattle.format.specs.Written.{setting, writtenRegionName, writtenSettings, writtenTiming, linesOf, cueLines, writtenId, regionLines}
+use Rattle.format.specs.declared.regions.Region.{Region}
+use Rattle.laws.proofs.Lines.{splits}
+use Rattle.laws.proofs.Standing.{ended-append}
+use Rattle.roundtrip.proofs.Cues.{names-of}
+use Rattle.forms.specs.Forms.{namedRegion, settingsForm, timingForm, cueForm, recordContents, numberLines}
+
+-- the lines of a text, and lines behind them
+pub ended-split : (s : List ℕ) → endedLines (split s) ≡ lf ∷ s
+unfolding endedLines join
+ended-split s = let t = splits s in ap endedLines (t .is) ∙ ap (λ r. lf ∷ r) (t .joined)
+
+join-split : (s : List ℕ) (ls : List (List ℕ)) → join (split s ++ ls) ≡ s ++ endedLines ls
+unfolding join
+join-split s ls =
+    let t = splits s in
+    rw (t .is, ended-append (t .rest) ls, ← append-assoc (t .first) (endedLines (t .rest)) (endedLines ls), t .joined)
+
+-- a cue's identifier, its timing line and its text
+join-id :
+    (id l : List ℕ) (ls : List (List ℕ)) → join (linesOf id ++ l ∷ ls) ≡ cond (isEmpty id) [] (id ++ lf ∷ []) ++ join (l ∷ ls)
+unfolding join endedLines linesOf isEmpty
+join-id [] l ls = refl
+join-id (b ∷ id) l ls = join-split (b ∷ id) (l ∷ ls) ∙ sym (append-assoc (b ∷ id) (lf ∷ []) (join (l ∷ ls)))
+
+ended-text : (text : List ℕ) → endedLines (linesOf text) ≡ cond (isEmpty text) [] (lf ∷ text)
+unfolding endedLines linesOf isEmpty
+ended-text [] = refl
+ended-text (b ∷ text) = ended-split (b ∷ text)
+
+pub join-cue :
+    (id timing text : List ℕ)
+    → join (linesOf id ++ timing ∷ linesOf text)
+    ≡ (cond (isEmpty id) [] (id ++ lf ∷ []) ++ timing) ++ cond (isEmpty text) [] (lf ∷ text)
+unfolding join
+join-cue id timing text = rw (append-assoc, ← ended-text text) (join-id id timing (linesOf text))
+
+-- a cue's row among regions' rows, by the word that names its region
+module _ (s : List ℕ) (regions : List (List ℕ)) (w : List ℕ) where
+  pub cue-alone : word 16 w ≡ 0 → join (cueLines (map (regionOfWords s) regions) (cueOfWords s w)) ≡ cueForm s w none
+  unfolding cueLines cueOfWords cueForm timingForm settingsForm namedRegion writtenTiming writtenSettings writtenRegionName optionOf
+  cue-alone e = rw e
+
+  pub cue-regional :
+      (word 16 w ≡ 0 → ⊥)
+      → join (cueLines (map (regionOfWords s) regions) (cueOfWords s w))
+      ≡ cueForm s w (some (getD (map (λ r. bytesAt s (word 0 r) (word 1 r)) regions) (word 16 w - 1) []))
+  unfolding cueLines cueOfWords cueForm timingForm settingsForm namedRegion writtenTiming writtenSettings writtenRegionName optionOf
+  cue-regional n = rw (ne-eqb (word 16 w) 0 n, names-of s regions)
+
+-- a setting on a line of its own
+pub ended-setting : (name value : List ℕ) → endedLines (setting name value) ≡ (lf ∷ (name ++ colon ∷ [])) ++ value
+unfolding endedLines setting
+ended-setting name value = ap (λ r. lf ∷ r) (append-nil (name ++ colon ∷ value) ∙ sym (append-assoc name (colon ∷ []) value))
+
+-- a region's lines: its identifier's, and those behind it
+behind-id : (a b c d e f : List (List ℕ)) → endedLines (a ++ b ++ c ++ d ++ e ++ f) ≡ endedLines a ++ endedLines (b ++ c ++ d ++ e ++ f)
+behind-id a b c d e f = simp (ended-append, append-assoc)
+
+pub join-region :
+    (s : List ℕ) (r : Region)
+    → join (regionLines (recordContents s r))
+    ≡ (ascii "REGION" ++ endedLines (writtenId (bytesAt s (r .id .from) (r .id .to)))) ++ endedLines (numberLines r)
+unfolding join regionLines recordContents numberLines
+join-region s r = ap (λ x. ascii "REGION" ++ x) (behind-id _ _ _ _ _ _)

@@ -1,0 +1,20 @@
+// Prints the written form of what a player would read of the standard input, or the refusal.
+use libc::STDIN_FILENO;
+
+fn main() {
+    let mut raw = [0u8; 16384];
+    let mut text = [0u8; 49152];
+    let mut out = [0u8; 65536];
+    let mut cues = [[0u64; 17]; 1024];
+    let mut regions = [[0u64; 9]; 1024];
+    let mut styles = [[0u64; 2]; 1024];
+    rewriting::files::rewrite_file(
+        STDIN_FILENO,
+        &mut raw,
+        &mut text,
+        &mut cues,
+        &mut regions,
+        &mut styles,
+        &mut out,
+    );
+}

@@ -1,0 +1,129 @@
+// Rewriting a raw file in the one written form: it is converted, read and written again, or refused by the first of these that refuses.
+pub mod files;
+
+use format::Converted;
+use format::Reading;
+use format::Rewriting;
+use format::Writing;
+ghost use mathlib.Core.Path.{_≡_};
+ghost use lib.ListN.{length, take};
+ghost use Rattle.format.specs.Plain.{plainText};
+ghost use Rattle.format.specs.Lists.{lists};
+ghost use Rattle.format.specs.Rows.{cueRows, regionRows, styleRows};
+ghost use Rattle.format.specs.Answers.{ifAccepted, placed};
+ghost use Rattle.format.specs.Converting.{convertedRoom};
+ghost use Rattle.format.specs.Reading.{readingIs, reading, afterReading};
+ghost use Rattle.format.specs.Writing.{writingIs, writing, writtenRoom};
+ghost use Rattle.format.specs.Rewriting.{rewritingIs, numberOnly, refusalNumber, lengths, readAndWrite, rewrittenFile, rewriting, rewrittenRoom, afterRewriting};
+
+// The number of a refusal to read; 0 for lists.
+fn reading_number(answer: Reading) -> u64
+    ensures { λ r. ⌜ r ≡ refusalNumber (readingIs answer) ⌝ }
+{
+    match answer {
+        Reading::Lists {
+            cues: _,
+            regions: _,
+            styles: _,
+        } => 0,
+        Reading::TextTooLong => 1,
+        Reading::TextNotPlainAt(_) => 3,
+        Reading::NoSignature => 4,
+        Reading::OverLimit => 5,
+        Reading::TablesTooShort {
+            cues: _,
+            regions: _,
+            styles: _,
+        } => 6,
+    }
+}
+
+fn written(answer: Writing) -> Rewriting
+    ensures { λ r. ⌜ rewritingIs r ≡ numberOnly (writingIs answer) ⌝ }
+{
+    match answer {
+        Writing::File(n) => Rewriting::File(n),
+        Writing::NotWritable {
+            list: _,
+            index: _,
+            test: _,
+        } => Rewriting::Refused(8),
+        Writing::FileTooLong => Rewriting::Refused(1),
+        Writing::OutTooShort(_) => Rewriting::Refused(10),
+    }
+}
+
+// Writes the first rows of each table.
+fn write_first(
+    text: &[u8],
+    styles: &[[u64; 2]],
+    s: usize,
+    regions: &[[u64; 9]],
+    r: usize,
+    cues: &[[u64; 17]],
+    c: usize,
+    out: &mut [u8],
+) -> Rewriting
+    ensures answer { λ a. ⌜ rewritingIs a ≡ numberOnly (writing (now (text .entry)) (take s (now (styles .entry))) (take r (now (regions .entry))) (take c (now (cues .entry))) (length (now (out .entry)))) ⌝ }
+    ensures out { λ a. ⌜ now (out .exit) ≡ writtenRoom (now (text .entry)) (take s (now (styles .entry))) (take r (now (regions .entry))) (take c (now (cues .entry))) (now (out .entry)) ⌝ }
+{
+    let last_style = values::least(s, styles.len());
+    let last_region = values::least(r, regions.len());
+    let last_cue = values::least(c, cues.len());
+    written(writer::write(
+        text,
+        &styles[..last_style],
+        &regions[..last_region],
+        &cues[..last_cue],
+        out,
+    ))
+}
+
+// Reads a plain text and writes what it reads as.
+fn rewrite_text(
+    text: &[u8],
+    cues: &mut [[u64; 17]],
+    regions: &mut [[u64; 9]],
+    styles: &mut [[u64; 2]],
+    out: &mut [u8],
+) -> Rewriting
+    ensures answer { λ r. ⌜ rewritingIs r ≡ numberOnly (readAndWrite (now (text .entry)) (lengths (now (text .entry)) (now (cues .entry)) (now (regions .entry)) (now (styles .entry)) (now (out .entry)))) ⌝ }
+    ensures cues { λ _. ⌜ now (cues .exit) ≡ afterReading (reading (now (text .entry)) (length (now (cues .entry))) (length (now (regions .entry))) (length (now (styles .entry)))) (cueRows (lists (now (text .entry)) .regions) (lists (now (text .entry)) .cues)) (now (cues .entry)) ⌝ }
+    ensures regions { λ _. ⌜ now (regions .exit) ≡ afterReading (reading (now (text .entry)) (length (now (cues .entry))) (length (now (regions .entry))) (length (now (styles .entry)))) (regionRows (lists (now (text .entry)) .regions)) (now (regions .entry)) ⌝ }
+    ensures styles { λ _. ⌜ now (styles .exit) ≡ afterReading (reading (now (text .entry)) (length (now (cues .entry))) (length (now (regions .entry))) (length (now (styles .entry)))) (styleRows (lists (now (text .entry)) .styles)) (now (styles .entry)) ⌝ }
+    ensures out { λ _. ⌜ now (out .exit) ≡ ifAccepted (readAndWrite (now (text .entry)) (lengths (now (text .entry)) (now (cues .entry)) (now (regions .entry)) (now (styles .entry)) (now (out .entry)))) (placed (rewrittenFile (now (text .entry))) (now (out .entry))) (now (out .entry)) ⌝ }
+{
+    let answer = reader::read(text, cues, regions, styles);
+    let Reading::Lists {
+        cues: c,
+        regions: r,
+        styles: s,
+    } = answer
+    else {
+        return Rewriting::Refused(reading_number(answer));
+    };
+    write_first(text, styles, s, regions, r, cues, c, out)
+}
+
+// Rewrites a raw file. Its plain text goes to `text`, its lists to the tables, and the written form to `out`.
+pub fn rewrite(
+    raw: &[u8],
+    text: &mut [u8],
+    cues: &mut [[u64; 17]],
+    regions: &mut [[u64; 9]],
+    styles: &mut [[u64; 2]],
+    out: &mut [u8],
+) -> Rewriting
+    ensures answer { λ r. ⌜ rewritingIs r ≡ numberOnly (rewriting (now (raw .entry)) (lengths (now (text .entry)) (now (cues .entry)) (now (regions .entry)) (now (styles .entry)) (now (out .entry)))) ⌝ }
+    ensures text { λ _. ⌜ now (text .exit) ≡ convertedRoom (now (raw .entry)) (now (text .entry)) ⌝ }
+    ensures cues { λ _. ⌜ now (cues .exit) ≡ afterRewriting (now (raw .entry)) (lengths (now (text .entry)) (now (cues .entry)) (now (regions .entry)) (now (styles .entry)) (now (out .entry))) (cueRows (lists (plainText (now (raw .entry))) .regions) (lists (plainText (now (raw .entry))) .cues)) (now (cues .entry)) ⌝ }
+    ensures regions { λ _. ⌜ now (regions .exit) ≡ afterRewriting (now (raw .entry)) (lengths (now (text .entry)) (now (cues .entry)) (now (regions .entry)) (now (styles .entry)) (now (out .entry))) (regionRows (lists (plainText (now (raw .entry))) .regions)) (now (regions .entry)) ⌝ }
+    ensures styles { λ _. ⌜ now (styles .exit) ≡ afterRewriting (now (raw .entry)) (lengths (now (text .entry)) (now (cues .entry)) (now (regions .entry)) (now (styles .entry)) (now (out .entry))) (styleRows (lists (plainText (now (raw .entry))) .styles)) (now (styles .entry)) ⌝ }
+    ensures out { λ _. ⌜ now (out .exit) ≡ rewrittenRoom (now (raw .entry)) (lengths (now (text .entry)) (now (cues .entry)) (now (regions .entry)) (now (styles .entry)) (now (out .entry))) (now (out .entry)) ⌝ }
+{
+    match plain::convert(raw, text) {
+        Converted::Text(n) => rewrite_text(&text[..n], cues, regions, styles, out),
+        Converted::TooLong => Rewriting::Refused(1),
+        Converted::RoomTooShort(_) => Rewriting::Refused(2),
+    }
+}
