@@ -15,3 +15,4 @@ pub mod Numbers
 pub mod Tokens
 pub mod Standing
 pub mod Contents
+pub mod Names

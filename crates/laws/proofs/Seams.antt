@@ -1,4 +1,4 @@
--- Where a file may be cut so that its pieces are converted one by one. Carries the theorem that a change to one cue leaves the rest as it reads.
+-- Where a file may be cut so that its pieces are converted one by one, and a byte order mark before what follows it.
 use Prim.Native.Nat.{ℕ, zero, suc, _≤_}
 use mathlib.Core.Path.{_≡_, refl, sym, ap, _∙_}
 use mathlib.Core.Bool.{Bool, true, false, not, _&&_, false≢true}
@@ -60,20 +60,20 @@ toPlain-seam (before-cr {a} {b}) =
 toPlain-seam (at-end {a}) = rw (append-nil a) (sym (append-nil (toPlain a)))
 
 -- no ASCII byte is in EF BB BF, so that it stands on one side of a seam
-startsWith-before : (p a : List ℕ) (d : ℕ) (b : List ℕ) → absent d p ≡ true → startsWith p (a ++ d ∷ b) ≡ startsWith p a
+pub startsWith-before : (p a : List ℕ) (d : ℕ) (b : List ℕ) → absent d p ≡ true → startsWith p (a ++ d ∷ b) ≡ startsWith p a
 unfolding startsWith absent
 startsWith-before [] a d b n = refl
 startsWith-before (c ∷ p) [] d b n =
     rw (ne-eqb d c (λ e. eqb-false c d (not-true (eqb c d) (and-left (not (eqb c d)) (absent d p) n)) (sym e)))
 startsWith-before (c ∷ p) (x ∷ a) d b n = ap (λ t. eqb x c && t) (startsWith-before p a d b (and-right (not (eqb c d)) (absent d p) n))
 
-startsWith-length : (p s : List ℕ) → startsWith p s ≡ true → length p ≤ length s
+pub startsWith-length : (p s : List ℕ) → startsWith p s ≡ true → length p ≤ length s
 unfolding startsWith
 startsWith-length [] s e = omega arith
 startsWith-length (c ∷ p) [] e = absurd (false≢true e)
 startsWith-length (c ∷ p) (b ∷ s) e = omega (arith, startsWith-length p s (and-right (eqb b c) (startsWith p s) e))
 
-dropBom-before : (a : List ℕ) (d : ℕ) (b : List ℕ) → absent d byteOrderMark ≡ true → dropBom (a ++ d ∷ b) ≡ dropBom a ++ d ∷ b
+pub dropBom-before : (a : List ℕ) (d : ℕ) (b : List ℕ) → absent d byteOrderMark ≡ true → dropBom (a ++ d ∷ b) ≡ dropBom a ++ d ∷ b
 unfolding dropBom
 dropBom-before a d b n =
     rw (startsWith-before byteOrderMark a d b n)

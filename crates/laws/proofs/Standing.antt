@@ -171,7 +171,7 @@ module _ (P : Part → Type 0) (at-nowhere : P nowhere) where
       cue-settings (record { settings = r .settings; over = s .over || r .over }) ts (v .1) (cue-setting t (s .settings) (v .0) h)
 
   -- the same for a region's identifier
-  OfRegion : TakenRegion → Type 0
+  unfoldable pub OfRegion : TakenRegion → Type 0
   OfRegion t = P (t .region .id)
 
   region-setting : (t : Part) (r : RegionValues) → P (valueOf t) → P (r .id) → OfRegion (regionSetting t r)
@@ -188,7 +188,7 @@ module _ (P : Part → Type 0) (at-nowhere : P nowhere) where
       (either OfRegion (same name (ascii "viewportanchor")) (by-option (λ p. P (setViewport p r .id)) (point x) h (λ p. h))
       (either OfRegion (same name (ascii "scroll") && same x (ascii "up")) h h))))))
 
-  region-settings : (s : TakenRegion) (ts : List Part) → All (λ t. P (valueOf t)) ts → OfRegion s → OfRegion (regionFrom s ts)
+  pub region-settings : (s : TakenRegion) (ts : List Part) → All (λ t. P (valueOf t)) ts → OfRegion s → OfRegion (regionFrom s ts)
   unfolding OfRegion regionFrom
   region-settings s [] v h = h
   region-settings s (t ∷ ts) v h =
@@ -339,7 +339,7 @@ abbrev pub Follow : List ℕ → List Part → Type 0
 Follow s [] = Unit
 Follow s (l ∷ ls) = Stands s (joined (l ∷ ls)) × Follow s ls
 
-bytes-append : (a b : List Part) → bytesOf (a ++ b) ≡ bytesOf a ++ bytesOf b
+pub bytes-append : (a b : List Part) → bytesOf (a ++ b) ≡ bytesOf a ++ bytesOf b
 unfolding bytesOf
 bytes-append [] b = refl
 bytes-append (l ∷ a) b = ap (λ r. l .bytes ∷ r) (bytes-append a b)

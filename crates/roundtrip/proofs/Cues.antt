@@ -44,6 +44,7 @@ use Rattle.format.specs.declared.settings.Align.the-variants as Align
 use Rattle.laws.proofs.Tests.{and-left, and-right, and-both, and-false, or-true, by-test, absent, absent-append}
 use Rattle.laws.proofs.Tokens.{inside as black}
 use Rattle.laws.proofs.Standing as Standing
+use Rattle.format.specs.Replacing.{withRegion}
 use Rattle.laws.proofs.Standing.{All}
 use Rattle.roundtrip.proofs.Numbers.{all-append, some-append, run-over, endsWith-snoc, decimal-all, TimeRead, time-read, fraction-all}
 use Rattle.roundtrip.proofs.Numbers.{percentage-read, line-read, numeral, writtenTime-numeral, writtenDecimal-numeral}
@@ -688,34 +689,46 @@ pub record CueWritable (rs : List RegionContents) (c : CueContents) : Type 0 whe
   pub text : isEmpty (c .text) || unbroken (c .text) ≡ true
   pub region : regionAllowed (map (λ r. r .id) rs) (c .region) ≡ true
 
-pub cue-writable :
-    (s : List ℕ) (rows : List (List ℕ)) (w : List ℕ)
-    → cueFails s rows w ≡ none
-    → All (λ r. regionFails s r ≡ none) rows
-    → CueWritable (map (regionOfWords s) rows) (cueOfWords s w)
-unfolding cueFails cueTest2 cueTest3 cueTest4 cueTest5 cueTest6 cueOfWords is100
-cue-writable s rows w e h =
-    let passed = none-fails 1 (cueTest1 s w ∷ cueTest2 s w ∷ cueTest3 s w ∷ cueTest4 w ∷ cueTest5 w ∷ cueTest6 s rows w ∷ []) e in
+-- the tests 2 to 5 of a row say so, whichever allowed region the cue asks for
+pub tests-writable :
+    (rs : List RegionContents) (o : Option ℕ) (s w : List ℕ)
+    → cueTest2 s w ≡ true
+    → cueTest3 s w ≡ true
+    → cueTest4 w ≡ true
+    → cueTest5 w ≡ true
+    → regionAllowed (map (λ r. r .id) rs) o ≡ true
+    → ((i : ℕ) → all black (regionName rs (some i)) ≡ true)
+    → CueWritable rs (withRegion o (cueOfWords s w))
+unfolding cueTest2 cueTest3 cueTest4 cueTest5 cueOfWords withRegion is100
+tests-writable rs o s w second third times fits allowed names =
     let id = bytesAt s (word 0 w) (word 1 w) in
-    let second = passed .1 .0 in
-    let times = passed .1 .1 .1 .0 in
     let before = ltb-true (word 2 w) (word 3 w) (and-left (ltb (word 2 w) (word 3 w)) (ltb (word 3 w) 360_000_000_000) times) in
     let within = ltb-true (word 3 w) 360_000_000_000 (and-right (ltb (word 2 w) (word 3 w)) (ltb (word 3 w) 360_000_000_000) times) in
-    let fits = passed .1 .1 .1 .1 .0 in
     let others = and-right (lineFits w) (positionFits w && is100 (word 14 w)) fits in
-    let rs = map (regionOfWords s) rows in
-    let allowed : regionAllowed (map (λ r. r .id) rs) (cueOfWords s w .region) ≡ true = rw (names-of s rows) (passed .1 .1 .1 .1 .1 .0) in
     record {
       settable = record {
         line = line-fits s w (and-left (lineFits w) (positionFits w && is100 (word 14 w)) fits);
         position = position-fits s w (and-left (positionFits w) (is100 (word 14 w)) others);
         size = leb-true (word 14 w) 100_000_000 (and-right (positionFits w) (is100 (word 14 w)) others);
-        region = region-allowed rs (cueOfWords s w .region) allowed (λ i. names-black s rows i h);
+        region = region-allowed rs o allowed names;
       };
       start = omega arith;
       end = within;
       line = absent-has lf id (and-left (not (has lf id)) (not (holdsArrow id)) second);
       plain = not-true (holdsArrow id) (and-right (not (has lf id)) (not (holdsArrow id)) second);
-      text = passed .1 .1 .0;
+      text = third;
       region = allowed;
     }
+
+pub cue-writable :
+    (s : List ℕ) (rows : List (List ℕ)) (w : List ℕ)
+    → cueFails s rows w ≡ none
+    → All (λ r. regionFails s r ≡ none) rows
+    → CueWritable (map (regionOfWords s) rows) (cueOfWords s w)
+unfolding cueFails cueTest6 cueOfWords withRegion
+cue-writable s rows w e h =
+    let passed = none-fails 1 (cueTest1 s w ∷ cueTest2 s w ∷ cueTest3 s w ∷ cueTest4 w ∷ cueTest5 w ∷ cueTest6 s rows w ∷ []) e in
+    let rs = map (regionOfWords s) rows in
+    let allowed : regionAllowed (map (λ r. r .id) rs) (cueOfWords s w .region) ≡ true = rw (names-of s rows) (passed .1 .1 .1 .1 .1 .0) in
+    tests-writable rs (cueOfWords s w .region) s w (passed .1 .0) (passed .1 .1 .0) (passed .1 .1 .1 .0) (passed .1 .1 .1 .1 .0) allowed
+    (λ i. names-black s rows i h)

@@ -162,7 +162,7 @@ placed-bytes : (bs : List (List (List ℕ))) → map bytesOf (map (linesAt 0) bs
 placed-bytes [] = refl
 placed-bytes (b ∷ bs) = let e = bytes-lines 0 b in let f = placed-bytes bs in rw (e, f)
 
-cue-blocks : (rs : List RegionContents) (c : CueContents) → CueWritable rs c → Block (cueLines rs c)
+pub cue-blocks : (rs : List RegionContents) (c : CueContents) → CueWritable rs c → Block (cueLines rs c)
 unfolding cueLines
 cue-blocks rs c f =
     cue-block (c .id) (writtenTiming rs c) (c .text) (f .line) (f .plain) (timing-line rs c (f .settable)) (timing-arrow rs c) (f .text)

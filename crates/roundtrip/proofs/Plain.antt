@@ -10,7 +10,7 @@ use lib.ListN.{length, getD, take, drop, length-append, take-append-drop}
 use borrow.Author.Tests.{ltb-true, ltb-false, eqb-false, not-true}
 use Rattle.format.specs.Bytes.{ascii, digit, nul, cr, lf, space, comma, hyphen, colon}
 use Rattle.format.specs.Texts.{isEmpty, all}
-use Rattle.format.specs.Lines.{onFirst, before, split}
+use Rattle.format.specs.Lines.{onFirst, before, split, endedLines, join}
 use Rattle.format.specs.Plain.{sequence, repair, plainStart, plainFrom, firstNotPlain, Plain}
 use Rattle.format.specs.Contents.{CueContents, RegionContents, Contents}
 use Rattle.format.specs.Rows.{word, cueCodesNamed, regionCodesNamed}
@@ -140,7 +140,7 @@ unfolding onFirst absent
 absent-first c b [] n h = (rw n, tt)
 absent-first c b (l ∷ ls) n h = (rw n (h .0), h .1)
 
-absent-split : (c : ℕ) (s : List ℕ) → absent c s ≡ true → All (λ l. absent c l ≡ true) (split s)
+pub absent-split : (c : ℕ) (s : List ℕ) → absent c s ≡ true → All (λ l. absent c l ≡ true) (split s)
 unfolding split before absent
 absent-split c [] a = (refl, tt)
 absent-split c (b ∷ s) a =
@@ -179,7 +179,7 @@ plain-named : (name value : List ℕ) → all plainByte name ≡ true → Plain 
 unfolding plainByte
 plain-named name value h p = plain-parted name colon value refl (plain-bytes name h) p
 
-plain-setting : (name value : List ℕ) → all plainByte name ≡ true → Plain value → All Plain (setting name value)
+pub plain-setting : (name value : List ℕ) → all plainByte name ≡ true → Plain value → All Plain (setting name value)
 unfolding setting
 plain-setting name value h p = (plain-named name value h p, tt)
 
@@ -269,7 +269,7 @@ pub record PlainCue (c : CueContents) : Type 0 where
   pub id : Plain (c .id)
   pub text : Plain (c .text)
 
-module _ (rs : List RegionContents) (h : All PlainRegion rs) (c : CueContents) where
+module _ (rs : List RegionContents) (c : CueContents) (h : All Plain (writtenRegionName rs (c .region))) where
   plain-settings : All Plain (writtenSettings rs c)
   unfolding writtenSettings
   plain-settings =
@@ -286,7 +286,7 @@ module _ (rs : List RegionContents) (h : All PlainRegion rs) (c : CueContents) w
       (plain-position (c .position .position) (c .position .align)))
       (plain-size (c .size)))
       (plain-align (c .align)))
-      (plain-regionName rs (c .region) h)
+      h
 
   pub plain-timing : Plain (writtenTiming rs c)
   unfolding writtenTiming all plainByte
@@ -348,6 +348,16 @@ unfolding apart
 plain-apart [] h = tt
 plain-apart (b ∷ bs) h = (plain-none, Standing.all-append Plain b (apart bs) (h .0) (plain-apart bs (h .1)))
 
+plain-ended : (ls : List (List ℕ)) → All Plain ls → Plain (endedLines ls)
+unfolding endedLines plainByte
+plain-ended [] h = plain-none
+plain-ended (l ∷ ls) h = plain-cons lf (l ++ endedLines ls) refl (plain-append l (endedLines ls) (h .0) (plain-ended ls (h .1)))
+
+pub plain-join : (ls : List (List ℕ)) → All Plain ls → Plain (join ls)
+unfolding join
+plain-join [] h = plain-none
+plain-join (l ∷ ls) h = plain-append l (endedLines ls) (h .0) (plain-ended ls (h .1))
+
 plain-lineEnded : (ls : List (List ℕ)) → All Plain ls → Plain (lineEnded ls)
 unfolding lineEnded plainByte
 plain-lineEnded [] h = plain-none
@@ -371,7 +381,7 @@ plain-written c p =
           (Standing.all-append (All Plain) styles regions
           (all-map Plain (All Plain) styleLines plain-styleLines (c .styles) (p .styles))
           (all-map PlainRegion (All Plain) regionLines plain-regionLines (c .regions) (p .regions)))
-          (all-map PlainCue (All Plain) (cueLines (c .regions)) (plain-cueLines (c .regions) (p .regions)) (c .cues) (p .cues))),
+          (all-map PlainCue (All Plain) (cueLines (c .regions)) (λ k q. plain-cueLines (c .regions) k (plain-regionName (c .regions) (k .region) (p .regions)) q) (c .cues) (p .cues))),
     )
 
 -- parts that pass test 1

@@ -1,5 +1,5 @@
 -- Laws of rows: what a row of named codes says, and that coding and decoding are inverse.
-use Prim.Native.Nat.{ℕ, suc, _+_, _-_, _≤_, _<_, min}
+use Prim.Native.Nat.{ℕ, suc, _-_, _≤_, _<_, min}
 use mathlib.Core.Path.{_≡_, refl, sym, ap, _∙_}
 use mathlib.Core.Bool.{Bool, true, false, _&&_}
 use mathlib.Core.List.{List, [], _∷_}
@@ -9,10 +9,11 @@ use lib.Dec.{eqb, ltb}
 use lib.ListN.{length}
 use borrow.Author.Tests.{lt-ltb, ne-eqb}
 use Rattle.format.specs.Rows.{word, cueCodesNamed, regionCodesNamed, cueOfRow, regionOfRow, cueWords, regionWords, directionOf, lineOf, lineAlignOf, positionOf, positionAlignOf, alignOf, regionIndexOf, scrollOf, directionWord, lineWord, lineNumberWord, snapWord, lineAlignWord, positionWord, positionNumberWord, positionAlignWord, alignWord, regionWord, scrollWord, greatestWord, regionFor, entryIs, ids, indexIs}
-use Rattle.format.specs.Texts.{Part, same, isEmpty}
-use Rattle.format.specs.RegionSettings.{RegionValues, laterOr, lastNamed}
+use Rattle.format.specs.Texts.{Part, isEmpty}
+use Rattle.format.specs.RegionSettings.{RegionValues, lastNamed}
 use Rattle.format.specs.Lists.{Cue}
 use Rattle.laws.proofs.Tests.{by-test, and-false}
+use Rattle.laws.proofs.Names.{found}
 use Rattle.format.specs.declared.settings.Direction.{Direction}
 use Rattle.format.specs.declared.settings.Direction.the-variants as Direction
 use Rattle.format.specs.declared.settings.Line.{Line}
@@ -183,26 +184,6 @@ pub region-inverse : (r : Region) → regionOfRow (regionWords r) ≡ RegionDeco
 unfolding regionOfRow regionCodesNamed
 region-inverse r = rw (scroll-coded (r .scroll) .0, scroll-coded (r .scroll) .1)
 
--- a region that is found is one of the list
-named-below : (k : ℕ) (x : List ℕ) (names : List (List ℕ)) (i : ℕ) → lastNamed k x names ≡ some i → i < k + length names
-unfolding lastNamed laterOr
-named-below k x [] i e = let z : _≡_ {A = ℕ} 0 1 = cc in absurd (omega arith)
-named-below k x (id ∷ names) i e = go (named-below (k + 1) x names) (lastNamed (k + 1) x names) refl
-  where
-    go :
-        ((j : ℕ) → lastNamed (k + 1) x names ≡ some j → j < k + 1 + length names)
-        → (o : Option ℕ)
-        → lastNamed (k + 1) x names ≡ o
-        → i < k + length (id ∷ names)
-    go below none q =
-        by-test (same id x)
-        (λ y. let f : some k ≡ some i = rw (q, y) at e in let g : k ≡ i = cc in omega arith)
-        (λ n. let f : _≡_ {A = Option ℕ} none (some i) = rw (q, n) at e in let z : _≡_ {A = ℕ} 0 1 = cc in absurd (omega arith))
-    go below (some j) q =
-        let f : some j ≡ some i = rw q at e in
-        let g : j ≡ i = cc in
-        omega (arith, below j q)
-
 ids-length : (rs : List RegionValues) → length (ids rs) ≡ length rs
 unfolding ids
 ids-length [] = refl
@@ -217,7 +198,7 @@ region-indexed rs name l =
   where
     go : (o : Option ℕ) → lastNamed 0 (name .bytes) (ids rs) ≡ o → Indexed (indexIs o)
     go none q = tt
-    go (some i) q = omega (arith, named-below 0 (name .bytes) (ids rs) i q, ids-length rs)
+    go (some i) q = omega (arith, found 0 (name .bytes) (ids rs) i q .below, ids-length rs)
 
 -- the rows that reading makes are read back as their entries
 pub read-inverse :
