@@ -16,7 +16,9 @@ use Rattle.format.specs.Lines.{split, join, endedLines}
 use Rattle.format.specs.TimingLines.{Timing, timingLine}
 use Rattle.format.specs.Blocks.{linesAt, behindSignature, blocks, Collecting, between, header, inside, holdsArrow, canTime, stops, begin, goOn, collected, ended, next, blocksFrom, bytesOf, joined}
 use Rattle.format.specs.Lists.{nothing, cueOf, definition, meaning}
-use Rattle.laws.proofs.Tests.{by-test, and-swap}
+use Rattle.format.specs.Replacing.{firstNumber}
+use Rattle.laws.proofs.Tests.{by-test, and-swap, absent}
+use Rattle.laws.proofs.Lines.{unbroken, split-join}
 use Rattle.laws.proofs.Blocks.{blocks-stop}
 use Rattle.laws.proofs.Runs.{run-next, run-take, run-length, run-at, run-after}
 use Rattle.values.proofs.NumberLaws.{is-empty-not}
@@ -133,6 +135,12 @@ module _ (s : List ℕ) (p : ℕ) (l : p ≤ length s) where
       rw (e, take-add (length (lineAt s p)) (to - lineEnd) (drop p s), drop-drop (length (lineAt s p)) p s)
       (ap (λ x. x ++ slice s lineEnd to) (sym (run-take inLine (drop p s))))
 
+-- a line holds no LF
+run-whole : (x : List ℕ) → absent lf (run inLine x) ≡ true
+unfolding absent run
+run-whole [] = refl
+run-whole (b ∷ x) = by-test (eqb b lf) (λ y. rw y) (λ n. rw (n, n) (run-whole x))
+
 slice-lf : (s : List ℕ) (e to : ℕ) → getD s e 0 ≡ lf → e < length s → e < to → slice s e to ≡ lf ∷ slice s (e + 1) to
 slice-lf s e to c l k =
     let n : to - e ≡ suc (to - (e + 1)) = omega arith in
@@ -149,6 +157,7 @@ record Took (s : List ℕ) (e : ℕ) (h : Head) (ls : List Part) : Type 0 where
   within : collectFrom h e ls .at ≤ length s
   not-before : e ≤ collectFrom h e ls .to
   bytes : endedLines (bytesOf (taken (h .left) ls)) ≡ slice s e (collectFrom h e ls .to)
+  whole : unbroken (bytesOf (taken (h .left) ls)) ≡ true
   first : joined (taken (h .left) ls) ≡ cond (eqb e (collectFrom h e ls .to)) nowhere (record { place = e + 1; bytes = join (bytesOf (taken (h .left) ls)) })
 
 last-line : (s : List ℕ) → fresh (linesFrom s (length s)) ≡ []
@@ -199,7 +208,7 @@ unfolding taken rest
 lines-step k l ms n = (rw n, rw n)
 
 took-end : (s : List ℕ) (e : ℕ) (h : Head) → e ≡ length s → Took s e h []
-unfolding taken rest collectFrom blocksFrom collected endedLines bytesOf joined
+unfolding taken rest collectFrom blocksFrom collected endedLines bytesOf joined unbroken
 took-end s e h q =
     record {
       goes = rw q (sym (last-line s));
@@ -207,6 +216,7 @@ took-end s e h q =
       within = omega arith;
       not-before = omega arith;
       bytes = sym (slice-none s e);
+      whole = refl;
       first = rw (eq-eqb e e refl);
     }
 
@@ -217,7 +227,7 @@ took-stop :
     → e < length s
     → stopAt (h .left) l ≡ true
     → Took s e h (l ∷ ms)
-unfolding endedLines bytesOf joined
+unfolding endedLines bytesOf joined unbroken
 took-stop s e h l ms q p i y =
     let st = collect-stop h e l ms y in
     let at : collectFrom h e (l ∷ ms) .at ≡ e + 1 = st .0 ∙ p in
@@ -228,6 +238,7 @@ took-stop s e h l ms q p i y =
       within = omega (arith, at);
       not-before = omega (arith, st .1);
       bytes = rw (none .0, st .1, slice-none s e);
+      whole = rw (none .0);
       first = rw (none .0, st .1, eq-eqb e e refl);
     }
 
@@ -239,7 +250,7 @@ took-step :
     stopAt (h .left) l ≡ false
     → Took s (endAt s (e + 1)) (headAfter h (endAt s (e + 1)) (holdsArrow (lineAt s (e + 1)))) ms
     → Took s e h (l ∷ ms)
-unfolding endedLines bytesOf joined
+unfolding endedLines bytesOf joined unbroken
 took-step s e h ms i c n t =
     let p = e + 1 in
     let x = lineAt s p in
@@ -258,6 +269,7 @@ took-step s e h ms i c n t =
       within = rw st (t .within);
       not-before = rw st (omega (arith, t .not-before));
       bytes = rw (st, lines .0, sym k, t .bytes, more);
+      whole = rw (lines .0, run-whole (drop p s), sym k) (t .whole);
       first = rw (st, lines .0, ne-eqb e to (λ q. absurd (omega (arith, t .not-before))));
     }
 
@@ -381,9 +393,12 @@ module _ (s : List ℕ) (from : ℕ) (i : from < length s) (b : inLine (getD s f
       → st .head .end ≤ st .to
       → ((seen : Bool) → meaning seen (l₁ ∷ taken (h .left) behind₁) ≡ meaningAt seen s from st)
       → BlockAt s from st
-  unfolding leftOf
+  unfolding leftOf firstNumber bytesOf join unbroken
   block h k f e t m =
       let tk = took₁ h in
+      let more = bytesOf (taken (h .left) behind₁) in
+      let to = collectFrom h e₁ behind₁ .to in
+      let text : slice s from to ≡ join (x₁ ∷ more) = line-more s from inside₁ to (tk .not-before) ∙ ap (λ r. x₁ ++ r) (sym (tk .bytes)) in
       record {
         lines = l₁ ∷ taken (h .left) behind₁;
         divides =
@@ -392,6 +407,8 @@ module _ (s : List ℕ) (from : ℕ) (i : from < length s) (b : inLine (getD s f
             ∙ inside-is (l₁ ∷ []) behind₁
             ∙ rw (sym k) (ap (λ r. (l₁ ∷ taken (h .left) behind₁) ∷ r) (tk .goes));
         meant = m;
+        begins = refl;
+        covers = ap split text ∙ split-join x₁ more (rw (run-whole (drop from s)) (tk .whole));
         starts = omega (arith, some₁, f);
         first-end = omega (arith, f);
         end-to = t;

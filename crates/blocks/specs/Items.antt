@@ -10,9 +10,11 @@ use Rattle.format.specs.Bytes.{ascii}
 use Rattle.format.specs.Texts.{Part, nowhere}
 use Rattle.format.specs.RegionSettings.{regionSettings, regionIs}
 use Rattle.format.specs.TimingLines.{Timing, timingLine}
-use Rattle.format.specs.Blocks.{between, blocksFrom}
+use Rattle.format.specs.Lines.{split}
+use Rattle.format.specs.Blocks.{between, blocksFrom, bytesOf}
 use Rattle.format.specs.CueSettings.{spanIs, noSpan, settingsIs}
 use Rattle.format.specs.Lists.{Cue, Item, nothing, cue, style, region, regionOf, isWord, meaning}
+use Rattle.format.specs.Replacing.{firstNumber}
 use Rattle.format.specs.declared.settings.Span.{Span}
 use Rattle.values.specs.Tokens.{spanTo}
 use Rattle.timing.specs.declared.timing_line.TimingLine.{TimingLine}
@@ -66,6 +68,8 @@ pub record BlockAt (s : List ℕ) (from : ℕ) (st : Stop) : Type 0 where
   pub lines : List Part
   pub divides : blocksFrom between (linesFrom s from) ≡ lines ∷ blocksFrom between (linesFrom s (st .at))
   pub meant : (seen : Bool) → meaning seen lines ≡ meaningAt seen s from st
+  pub begins : firstNumber lines ≡ from
+  pub covers : split (part s from (st .to) .bytes) ≡ bytesOf lines
   pub starts : from < st .head .first
   pub first-end : st .head .first ≤ st .head .end
   pub end-to : st .head .end ≤ st .to

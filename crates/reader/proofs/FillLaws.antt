@@ -38,7 +38,7 @@ some-bytes [] e = absurd (true≢false e)
 some-bytes (b ∷ x) e = omega arith
 
 -- a part that stands in the text, by the places that the code holds of it
-part-back : (s : List ℕ) (p : Part) → Stands s p → partOf s (spanIs p .from) (spanIs p .to) .bytes ≡ p .bytes
+pub part-back : (s : List ℕ) (p : Part) → Stands s p → partOf s (spanIs p .from) (spanIs p .to) .bytes ≡ p .bytes
 unfolding spanIs
 part-back s p h =
     by-test (isEmpty (p .bytes))

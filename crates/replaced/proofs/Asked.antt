@@ -80,7 +80,7 @@ module _ (s t w : List ℕ) (e : newCueFails t w (regionNames s) ≡ none) where
   abbrev asked : CueContents
   asked = cueAsked t w names
 
-  names-are : map (λ r. r .id) rs ≡ names
+  pub names-are : map (λ r. r .id) rs ≡ names
   unfolding contents regionNames
   names-are = sym (ids-contents (lists s .regions))
 
@@ -105,7 +105,7 @@ module _ (s t w : List ℕ) (e : newCueFails t w (regionNames s) ≡ none) where
       record { id = parts .id; text = parts .text }
 
   -- the region's name is the one lent, which is plain
-  asked-name : (i : ℕ) → regionAsked names (nameLent t w) ≡ some i → getD names i [] ≡ nameLent t w
+  pub asked-name : (i : ℕ) → regionAsked names (nameLent t w) ≡ some i → getD names i [] ≡ nameLent t w
   unfolding regionAsked
   asked-name i q =
       let name = nameLent t w in

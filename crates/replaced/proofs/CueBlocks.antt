@@ -41,7 +41,7 @@ module _ (b : List Part) where
   one-cue (style text) k h = absurd (omega arith)
   one-cue (region r over) k h = absurd (omega arith)
 
-  cues-into : (i : Item) (l : Lists) → length (into i l .cues) ≡ length (blockOfCue i b) + length (l .cues)
+  pub cues-into : (i : Item) (l : Lists) → length (into i l .cues) ≡ length (blockOfCue i b) + length (l .cues)
   unfolding blockOfCue into
   cues-into nothing l = omega arith
   cues-into (cue c over) l = omega arith
@@ -151,7 +151,7 @@ place-numbered n [] (x ∷ xs) l ys e = cc
 place-numbered n (k ∷ ls) [] l ys e = let p : l .place ≡ n = cc in omega arith
 place-numbered n (k ∷ ls) (x ∷ xs) l ys e = omega (arith, place-numbered (suc n) ls xs l ys (cc))
 
-length-bytes : (ls : List Part) → length (bytesOf ls) ≡ length ls
+pub length-bytes : (ls : List Part) → length (bytesOf ls) ≡ length ls
 unfolding bytesOf
 length-bytes [] = refl
 length-bytes (l ∷ ls) = ap suc (length-bytes ls)

@@ -27,7 +27,7 @@ use Rattle.replaced.proofs.CueBlocks.{cue-block-at, lines-read}
 use Rattle.replaced.proofs.Asked.{asked-writable, form-plain, form-begins}
 
 -- an answer that accepts was refused by no test
-behind-test : (t : Bool) (n : ℕ) (us vs : List ℕ) (a : Answer) → cond t (refused n us) a ≡ accepted vs → (t ≡ false) × (a ≡ accepted vs)
+pub behind-test : (t : Bool) (n : ℕ) (us vs : List ℕ) (a : Answer) → cond t (refused n us) a ≡ accepted vs → (t ≡ false) × (a ≡ accepted vs)
 behind-test true n us vs a e = let z : _≡_ {A = ℕ} 0 1 = cc in absurd (omega arith)
 behind-test false n us vs a e = (refl, e)
 

@@ -12,62 +12,70 @@ use Rattle.format.specs.Contents.{contents}
 use Rattle.format.specs.Replacing.{numbered}
 use Rattle.laws.proofs.Tests.{by-test}
 use Rattle.laws.proofs.Standing.{bytes-lines}
-use Rattle.laws.proofs.Contents.{bare, unplaced, contents-unplaced, over-unplaced}
+use Rattle.laws.proofs.Contents.{unplaced, contents-unplaced, over-unplaced}
 
--- where collecting stands, with every place 0
-bareState : Collecting → Collecting
-bareState between = between
-bareState header = header
-bareState (inside ls) = inside (unplaced ls)
+-- lines with other places, given by the old ones
+module _ (f : ℕ → ℕ) where
+  abbrev pub moved : Part → Part
+  moved l = record { place = f (l .place); bytes = l .bytes }
 
-stops-bare : (st : Collecting) (l : Part) → stops (bareState st) (bare l) ≡ stops st l
-unfolding stops bareState canTime
-stops-bare between l = refl
-stops-bare header l = refl
-stops-bare (inside []) l = refl
-stops-bare (inside (a ∷ [])) l = refl
-stops-bare (inside (a ∷ (b ∷ ls))) l = refl
+  -- where collecting stands then
+  movedState : Collecting → Collecting
+  movedState between = between
+  movedState header = header
+  movedState (inside ls) = inside (map moved ls)
 
-begin-bare : (l : Part) → begin (bare l) ≡ bareState (begin l)
-unfolding begin bareState
-begin-bare l = by-test (isEmpty (l .bytes)) (λ y. rw y) (λ n. rw n)
+  stops-moved : (st : Collecting) (l : Part) → stops (movedState st) (moved l) ≡ stops st l
+  unfolding stops movedState canTime
+  stops-moved between l = refl
+  stops-moved header l = refl
+  stops-moved (inside []) l = refl
+  stops-moved (inside (a ∷ [])) l = refl
+  stops-moved (inside (a ∷ (b ∷ ls))) l = refl
 
-on-bare : (st : Collecting) (l : Part) → goOn (bareState st) (bare l) ≡ bareState (goOn st l)
-unfolding goOn bareState
-on-bare between l = begin-bare l
-on-bare header l = refl
-on-bare (inside ls) l = rw (map-append bare ls (l ∷ []))
+  begin-moved : (l : Part) → begin (moved l) ≡ movedState (begin l)
+  unfolding begin movedState
+  begin-moved l = by-test (isEmpty (l .bytes)) (λ y. rw y) (λ n. rw n)
 
-collected-bare : (st : Collecting) → collected (bareState st) ≡ map unplaced (collected st)
-unfolding collected bareState
-collected-bare between = refl
-collected-bare header = refl
-collected-bare (inside ls) = refl
+  on-moved : (st : Collecting) (l : Part) → goOn (movedState st) (moved l) ≡ movedState (goOn st l)
+  unfolding goOn movedState
+  on-moved between l = begin-moved l
+  on-moved header l = refl
+  on-moved (inside ls) l = rw (map-append moved ls (l ∷ []))
 
-next-bare : (st : Collecting) (l : Part) → next (bareState st) (bare l) ≡ bareState (next st l)
-unfolding next
-next-bare st l =
-    by-test (stops st l)
-    (λ y. rw (stops-bare st l, y) (begin-bare l))
-    (λ n. rw (stops-bare st l, n) (on-bare st l))
+  collected-moved : (st : Collecting) → collected (movedState st) ≡ map (map moved) (collected st)
+  unfolding collected movedState
+  collected-moved between = refl
+  collected-moved header = refl
+  collected-moved (inside ls) = refl
 
-ended-bare : (st : Collecting) (l : Part) → ended (bareState st) (bare l) ≡ map unplaced (ended st l)
-unfolding ended
-ended-bare st l =
-    by-test (stops st l)
-    (λ y. rw (stops-bare st l, y) (collected-bare st))
-    (λ n. rw (stops-bare st l, n))
+  next-moved : (st : Collecting) (l : Part) → next (movedState st) (moved l) ≡ movedState (next st l)
+  unfolding next
+  next-moved st l =
+      by-test (stops st l)
+      (λ y. rw (stops-moved st l, y) (begin-moved l))
+      (λ n. rw (stops-moved st l, n) (on-moved st l))
 
-blocks-bare : (st : Collecting) (ls : List Part) → blocksFrom (bareState st) (unplaced ls) ≡ map unplaced (blocksFrom st ls)
-unfolding blocksFrom
-blocks-bare st [] = collected-bare st
-blocks-bare st (l ∷ ls) =
-    rw (map-append unplaced (ended st l) (blocksFrom (next st l) ls), ended-bare st l, next-bare st l, blocks-bare (next st l) ls)
+  ended-moved : (st : Collecting) (l : Part) → ended (movedState st) (moved l) ≡ map (map moved) (ended st l)
+  unfolding ended
+  ended-moved st l =
+      by-test (stops st l)
+      (λ y. rw (stops-moved st l, y) (collected-moved st))
+      (λ n. rw (stops-moved st l, n))
+
+  blocks-moved : (st : Collecting) (ls : List Part) → blocksFrom (movedState st) (map moved ls) ≡ map (map moved) (blocksFrom st ls)
+  unfolding blocksFrom
+  blocks-moved st [] = collected-moved st
+  blocks-moved st (l ∷ ls) =
+      rw (map-append (map moved) (ended st l) (blocksFrom (next st l) ls), ended-moved st l, next-moved st l, blocks-moved (next st l) ls)
+
+  pub signature-moved : (ls : List Part) → behindSignature (map moved ls) ≡ map (map moved) (behindSignature ls)
+  unfolding behindSignature movedState
+  signature-moved [] = refl
+  signature-moved (l ∷ ls) = blocks-moved header ls
 
 signature-bare : (ls : List Part) → behindSignature (unplaced ls) ≡ map unplaced (behindSignature ls)
-unfolding behindSignature bareState
-signature-bare [] = refl
-signature-bare (l ∷ ls) = blocks-bare header ls
+signature-bare ls = signature-moved (λ p. 0) ls
 
 unplaced-same : (ks ls : List Part) → bytesOf ks ≡ bytesOf ls → unplaced ks ≡ unplaced ls
 unfolding bytesOf

@@ -68,7 +68,7 @@ module _ (b : ℕ) (n : eqb b lf ≡ false) (z : eqb b cr ≡ false) where
   lined-on {raw} {ls} h = record { bytes = bytes-on b ls ∙ ap (λ r. b ∷ r) (h .bytes); shape = shaped-on (h .shape) }
 
 -- CR before an LF: both end one empty line
-lf-first : (s : List ℕ) → startsWith (lf ∷ []) s ≡ true → rawLines s ≡ emptyLine (lf ∷ []) ∷ rawLines (drop 1 s)
+pub lf-first : (s : List ℕ) → startsWith (lf ∷ []) s ≡ true → rawLines s ≡ emptyLine (lf ∷ []) ∷ rawLines (drop 1 s)
 unfolding startsWith rawLines beforeLines
 lf-first [] y = absurd (false≢true y)
 lf-first (b ∷ s) y = rw (and-left (eqb b lf) true y)

@@ -47,7 +47,7 @@ fails-behind n (true ∷ ts) us h e =
 fails-behind n (false ∷ ts) us h e = absurd (omega arith)
 
 -- tests are counted from 1, so 0 says that none fails
-none-fails : (n : ℕ) (ts : List Bool) → 0 < n → testNumber (firstFailing n ts) ≡ 0 → firstFailing n ts ≡ none
+pub none-fails : (n : ℕ) (ts : List Bool) → 0 < n → testNumber (firstFailing n ts) ≡ 0 → firstFailing n ts ≡ none
 unfolding firstFailing
 none-fails n [] h e = refl
 none-fails n (true ∷ ts) h e = none-fails (n + 1) ts (omega arith) e
@@ -68,7 +68,7 @@ pub cue-counted : (s : List ℕ) (regions : List (List ℕ)) → Counted (cueFai
 unfolding cueFails
 cue-counted s regions w e = none-fails 1 _ (omega arith) e
 
-number-is : (o : Option ℕ) → (testNumber o ≡ 0 → ⊥) → o ≡ some (testNumber o)
+pub number-is : (o : Option ℕ) → (testNumber o ≡ 0 → ⊥) → o ≡ some (testNumber o)
 number-is none f = absurd (f refl)
 number-is (some n) f = refl
 

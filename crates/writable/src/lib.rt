@@ -10,7 +10,7 @@ use reader::parts::part_plain;
 ghost use mathlib.Core.Path.{_≡_};
 ghost use mathlib.Core.List.{[], _∷_, map};
 ghost use Rattle.format.specs.Rows.{regionWords, word};
-ghost use Rattle.format.specs.Parts.{bytesAt};
+ghost use Rattle.format.specs.Parts.{bytesAt, cueTest1};
 ghost use Rattle.format.specs.Writable.{firstFailing, is100, lineFits, positionFits, lastOfItsName, cueTest2, cueTest3, cueTest4, cueTest5, cueTest6, cueFails, regionTest3, regionFails, styleFails};
 ghost use Rattle.format.specs.Writing.{firstIn};
 ghost use Rattle.writable.specs.Faults.{testNumber, faultIs};
@@ -196,25 +196,9 @@ fn cue_parts_test(text: &[u8], row: [u64; 17]) -> usize
     3
 }
 
-// A cue's tests 4 to 6: the first that fails, or 0.
-fn cue_numbers_test(text: &[u8], regions: &[[u64; 9]], row: [u64; 17]) -> usize
-    ensures { λ r. ⌜ r ≡ testNumber (firstFailing 4 (cueTest4 row ∷ cueTest5 row ∷ cueTest6 (now (text .entry)) (now (regions .entry)) row ∷ [])) ⌝ }
-{
-    if !times_fit(row) {
-        return 4;
-    }
-    if !numbers_fit(row) {
-        return 5;
-    }
-    if !region_fits(text, regions, row) {
-        return 6;
-    }
-    0
-}
-
-// The first test that a cue fails; 0 where it is writable.
-fn cue_test(text: &[u8], regions: &[[u64; 9]], row: [u64; 17]) -> usize
-    ensures { λ r. ⌜ r ≡ testNumber (cueFails (now (text .entry)) (now (regions .entry)) row) ⌝ }
+// The first of a cue's tests 1 to 5, which do not look at its region, that fails; 0 where none does.
+pub fn cue_fields_test(text: &[u8], row: [u64; 17]) -> usize
+    ensures { λ r. ⌜ r ≡ testNumber (firstFailing 1 (cueTest1 (now (text .entry)) row ∷ cueTest2 (now (text .entry)) row ∷ cueTest3 (now (text .entry)) row ∷ cueTest4 row ∷ cueTest5 row ∷ [])) ⌝ }
 {
     if !reader::parts::test_1(text, row) {
         return 1;
@@ -223,7 +207,27 @@ fn cue_test(text: &[u8], regions: &[[u64; 9]], row: [u64; 17]) -> usize
     if parts != 0 {
         return parts;
     }
-    cue_numbers_test(text, regions, row)
+    if !times_fit(row) {
+        return 4;
+    }
+    if !numbers_fit(row) {
+        return 5;
+    }
+    0
+}
+
+// The first test that a cue fails; 0 where it is writable.
+fn cue_test(text: &[u8], regions: &[[u64; 9]], row: [u64; 17]) -> usize
+    ensures { λ r. ⌜ r ≡ testNumber (cueFails (now (text .entry)) (now (regions .entry)) row) ⌝ }
+{
+    let fields = cue_fields_test(text, row);
+    if fields != 0 {
+        return fields;
+    }
+    if !region_fits(text, regions, row) {
+        return 6;
+    }
+    0
 }
 
 // The first style that is not writable.

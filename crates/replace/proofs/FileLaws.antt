@@ -1,0 +1,129 @@
+-- Laws of the new file: the pieces it is put together of, and the form of the new cue among the old file's regions.
+use Prim.Native.Nat.{ℕ, _-_, _≤_, _<_}
+use mathlib.Core.Path.{_≡_, refl, ap}
+use mathlib.Core.Bool.{true, false, not, _||_, false≢true}
+use mathlib.Core.List.{List, [], _∷_}
+use mathlib.Core.Option.{Option, none, some}
+use native.Mathlib.Omega.{arith}
+use lib.Dec.{ltb}
+use lib.ListN.{length, take, drop, length-drop}
+use lib.Seq.{take-all}
+use borrow.Author.Tests.{lt-ltb, le-ltb}
+use Rattle.format.specs.Limits.{maxFile}
+use Rattle.format.specs.Answers.{ifAccepted}
+use Rattle.format.specs.declared.Replacing.the-variants as Replacing
+use Rattle.output.specs.Puts.{Puts}
+use Rattle.output.proofs.PutLaws.{measured, stands}
+use Rattle.writer.proofs.WriteLaws.{exact, above}
+use Rattle.format.specs.Texts.{isEmpty}
+use Rattle.format.specs.Plain.{plainText}
+use Rattle.format.specs.Rows.{word}
+use Rattle.format.specs.Parts.{bytesAt}
+use Rattle.format.specs.RegionSettings.{lastNamed}
+use Rattle.format.specs.Lists.{lists}
+use Rattle.format.specs.Contents.{contents}
+use Rattle.format.specs.Writable.{cueOfWords, cueTest2, cueTest3, cueTest4, cueTest5}
+use Rattle.format.specs.Written.{writtenRegionName, writtenSettings, writtenTiming, cueLines}
+use Rattle.format.specs.Replacing.{nameLent, regionAsked, withRegion, cueAsked, newTest1, isThere, newTest6, newCueFails, regionNames, newForm, newFile, replacingIs, rawStart, rawEnd, ownStart, ownEnd}
+use Rattle.laws.proofs.Tests.{by-test}
+use Rattle.roundtrip.proofs.Shape.{none-fails}
+use Rattle.replaced.proofs.Asked.{names-are, asked-name}
+use Rattle.forms.specs.Forms.{asked, namedRegion, settingsForm, timingForm, cueForm}
+use Rattle.replace.specs.NewCue.{cueRow, lentForm, inPlace, sizedAnswer, Outcome}
+use Rattle.replace.specs.Places.{lineEnds, OwnLines}
+
+pub front-part : (s : List ℕ) (n : ℕ) → bytesAt s 0 n ≡ take n s
+unfolding bytesAt
+front-part s n = let e : n - 0 ≡ n = omega arith in rw e refl
+
+pub back-part : (s : List ℕ) (n : ℕ) → bytesAt s n (length s) ≡ drop n s
+unfolding bytesAt
+back-part s n = take-all (length s - n) (drop n s) (omega (arith, length-drop n s))
+
+pub some-bytes : (s : List ℕ) → ltb 0 (length s) ≡ not (isEmpty s)
+unfolding isEmpty
+some-bytes [] = refl
+some-bytes (b ∷ s) = lt-ltb 0 (length (b ∷ s)) (omega arith)
+
+-- the new cue's written form, by its words and its region's name
+pub lent-form :
+    (t w words name : List ℕ)
+    → words ≡ cueRow w
+    → name ≡ bytesAt t (word 16 w) (word 17 w)
+    → cueForm t words (asked (ltb 0 (length name)) name) ≡ lentForm t w
+unfolding lentForm nameLent
+lent-form t w words name e f = rw (e, f) (ap (λ a. cueForm t (cueRow w) (asked a (bytesAt t (word 16 w) (word 17 w)))) (some-bytes (bytesAt t (word 16 w) (word 17 w))))
+
+-- it is the form of the cue asked for, where no test fails
+module _ (s t w : List ℕ) (e : newCueFails t w (regionNames s) ≡ none) where
+  abbrev names : List (List ℕ)
+  names = regionNames s
+
+  abbrev name : List ℕ
+  name = nameLent t w
+
+  found-region :
+      (o : Option ℕ) → regionAsked names name ≡ o → isThere o ≡ true → namedRegion (some name) ≡ writtenRegionName (contents (lists s) .regions) o
+  unfolding namedRegion writtenRegionName isThere
+  found-region none q h = absurd (false≢true h)
+  found-region (some i) q h = rw (names-are s t w e, asked-name s t w e i q) refl
+
+  is-there : (isEmpty name || isThere (lastNamed 0 name names)) ≡ true
+  unfolding newCueFails newTest6
+  is-there =
+      none-fails 1 (newTest1 t w ∷ cueTest2 t w ∷ cueTest3 t w ∷ cueTest4 w ∷ cueTest5 w ∷ newTest6 t w names ∷ []) e .1 .1 .1 .1 .1 .0
+
+  region-form : namedRegion (asked (not (isEmpty name)) name) ≡ writtenRegionName (contents (lists s) .regions) (regionAsked names name)
+  unfolding namedRegion regionAsked writtenRegionName
+  region-form =
+      by-test (isEmpty name)
+      (λ y. rw y refl)
+      (λ n. rw n (found-region (lastNamed 0 name names) (rw n refl) (rw n at is-there)))
+
+  pub form-is : lentForm t w ≡ newForm s t w
+  unfolding lentForm newForm cueForm cueLines cueAsked withRegion cueOfWords timingForm settingsForm writtenTiming writtenSettings
+  form-is = rw region-form refl
+
+-- the file that the code puts together is the new file
+pub file-is :
+    (raw s t w : List ℕ) (number from to start end : ℕ)
+    → s ≡ plainText raw
+    → OwnLines s number from to
+    → newCueFails t w (regionNames s) ≡ none
+    → start ≡ rawStart raw (lineEnds (take from s))
+    → end ≡ rawEnd raw (lineEnds (take to s))
+    → inPlace raw start end t w ≡ newFile raw number t w
+unfolding inPlace newFile ownStart ownEnd
+file-is raw s t w number from to start end e own passed a b =
+    rw (a, b, ← (own .first), ← (own .last), form-is s t w passed, e) refl
+
+-- what was measured decides the answer
+module _ (new out : List ℕ) where
+  pub too-long : {o p : List ℕ} {n : ℕ} → Puts new 0 o n p → maxFile < n → Outcome new out (sizedAnswer new (length out)) Replacing.FileTooLong out
+  unfolding sizedAnswer replacingIs ifAccepted
+  too-long f h = rw (lt-ltb maxFile (length new) (above f h)) (record { answer = refl; holds = refl })
+
+  pub too-short :
+      {o p : List ℕ} {n : ℕ}
+      → Puts new 0 o n p
+      → n ≤ maxFile
+      → length out < n
+      → Outcome new out (sizedAnswer new (length out)) (Replacing.OutTooShort n) out
+  unfolding sizedAnswer replacingIs ifAccepted
+  too-short {o} {p} {n} f h l =
+      let is = exact f h in
+      rw (is, le-ltb maxFile (length new) (omega arith), lt-ltb (length out) (length new) (omega arith)) (record { answer = refl; holds = refl })
+
+  pub fits :
+      {o p q : List ℕ} {n m : ℕ}
+      → Puts new 0 o n p
+      → n ≤ maxFile
+      → n ≤ length out
+      → Puts new 0 out m q
+      → Outcome new out (sizedAnswer new (length out)) (Replacing.File m) q
+  unfolding sizedAnswer replacingIs ifAccepted
+  fits {o} {p} {q} {n} {m} f h l g =
+      let is = exact f h in
+      let same = measured g (omega arith) in
+      rw (same, le-ltb maxFile (length new) (omega arith), le-ltb (length out) (length new) (omega arith))
+      (record { answer = refl; holds = stands g (omega arith) (omega arith) })

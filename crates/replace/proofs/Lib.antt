@@ -1,0 +1,7 @@
+-- Laws that this crate's proofs cite.
+pub mod PlaceLaws
+pub mod FindLaws
+pub mod FileLaws
+pub mod CountLaws
+pub mod CheckLaws
+pub mod ConvertLaws

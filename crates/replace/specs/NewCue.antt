@@ -1,0 +1,80 @@
+-- The new cue's row as a cue's row, and the new file as the code puts it together.
+use Prim.Native.Nat.{ℕ, _≤_}
+use mathlib.Core.Path.{_≡_}
+use mathlib.Core.Bool.{true, false, cond, not}
+use mathlib.Core.List.{List, [], _∷_, _++_}
+use lib.Dec.{ltb}
+use lib.ListN.{length, take, drop}
+use Rattle.format.specs.Limits.{maxFile}
+use Rattle.format.specs.Texts.{isEmpty}
+use Rattle.format.specs.Plain.{plainText}
+use Rattle.format.specs.Blocks.{hasSignature}
+use Rattle.format.specs.Lists.{items, lists, anyOver}
+use Rattle.format.specs.Rows.{word}
+use Rattle.format.specs.Answers.{Answer, accepted, refused, ifAccepted, placed}
+use Rattle.format.specs.Replacing.{nameLent, newCueFails, regionNames, newFile, noGap, replacingIs, unlessTest}
+use Rattle.format.specs.declared.Replacing.{Replacing}
+use Rattle.forms.specs.Forms.{asked, cueForm}
+
+-- the words of a new cue's row that mean what they mean in a cue's row, with no region
+abbrev pub cueRow : List ℕ → List ℕ
+cueRow w =
+    word 0 w
+    ∷ word 1 w
+    ∷ word 2 w
+    ∷ word 3 w
+    ∷ word 4 w
+    ∷ word 5 w
+    ∷ word 6 w
+    ∷ word 7 w
+    ∷ word 8 w
+    ∷ word 9 w
+    ∷ word 10 w
+    ∷ word 11 w
+    ∷ word 12 w
+    ∷ word 13 w
+    ∷ word 14 w
+    ∷ word 15 w
+    ∷ 0
+    ∷ []
+
+-- its written form
+unfoldable pub lentForm : List ℕ → List ℕ → List ℕ
+lentForm t w = cueForm t (cueRow w) (asked (not (isEmpty (nameLent t w))) (nameLent t w))
+
+-- that form in place of the bytes of a file from one place up to another
+unfoldable pub inPlace : List ℕ → ℕ → ℕ → List ℕ → List ℕ → List ℕ
+inPlace raw start end t w = take start raw ++ lentForm t w ++ drop end raw
+
+-- what replacing answers behind its last test of the cue: 1 (output), 10, else the new file's length
+unfoldable pub sizedAnswer : List ℕ → ℕ → Answer
+sizedAnswer new out =
+    cond (ltb maxFile (length new)) (refused 1 [])
+    (cond (ltb out (length new)) (refused 10 (length new ∷ [])) (accepted (length new ∷ [])))
+
+-- what it answers behind the new cue's tests, and behind the count of cues
+unfoldable pub gapAnswer : List ℕ → ℕ → List ℕ → List ℕ → ℕ → Answer
+gapAnswer raw number t w out =
+    cond (noGap (plainText raw) number t w) (refused 9 []) (sizedAnswer (newFile raw number t w) out)
+
+unfoldable pub testedAnswer : List ℕ → ℕ → List ℕ → List ℕ → ℕ → Answer
+testedAnswer raw number t w out =
+    unlessTest (newCueFails t w (regionNames (plainText raw))) number (gapAnswer raw number t w out)
+
+-- what it answers behind the file's own refusals
+unfoldable pub countedAnswer : List ℕ → ℕ → List ℕ → List ℕ → ℕ → Answer
+countedAnswer raw number t w out =
+    cond (not (ltb number (length (lists (plainText raw) .cues)))) (refused 7 (length (lists (plainText raw) .cues) ∷ []))
+    (testedAnswer raw number t w out)
+
+-- an answer, and the output room after it
+pub record Outcome (new out : List ℕ) (a : Answer) (r : Replacing) (room : List ℕ) : Type 0 where
+  pub answer : replacingIs r ≡ a
+  pub holds : room ≡ ifAccepted a (placed new out) out
+
+-- the plain text of a file that converting accepts, has the signature and no number above its limit
+pub record Readable (raw s : List ℕ) : Type 0 where
+  pub text : s ≡ plainText raw
+  pub size : length raw ≤ maxFile
+  pub signature : hasSignature s ≡ true
+  pub within : anyOver (items s) ≡ false

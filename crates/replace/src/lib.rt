@@ -1,0 +1,194 @@
+// Replacing one cue of a raw file: the cue's own bytes are changed and nothing else. Any bytes and any numbers are taken, and nothing is
+// asked of the caller.
+mod counting;
+mod finding;
+mod places;
+mod testing;
+
+use counting::Counted;
+use format::Converted;
+use format::Replacing;
+use format::settings::Span;
+use output::bytes;
+use writable::part;
+ghost use Prim.Native.Nat.{ℕ, _-_, _≤_, _<_};
+ghost use mathlib.Core.Path.{_≡_};
+ghost use mathlib.Core.Bool.{false, not, _&&_};
+ghost use mathlib.Core.Option.{none};
+ghost use mathlib.Core.List.{[]};
+ghost use lib.ListN.{length, getD, take};
+ghost use Rattle.format.specs.Texts.{isEmpty};
+ghost use Rattle.format.specs.Lines.{split};
+ghost use Rattle.format.specs.Limits.{maxFile, maxText};
+ghost use Rattle.format.specs.Plain.{plainText, Plain};
+ghost use Rattle.format.specs.Lists.{items, lists, anyOver};
+ghost use Rattle.format.specs.Answers.{ifAccepted, placed};
+ghost use Rattle.format.specs.Converting.{convertedRoom};
+ghost use Rattle.format.specs.Replacing.{newCueFails, regionNames, newFile, replacingIs, replacingText, replacing, replacedRoom, Replaced};
+ghost use Rattle.format.specs.declared.Replacing.the-variants as Answer;
+ghost use Rattle.output.specs.Puts.{Puts};
+ghost use Rattle.replace.specs.NewCue.{inPlace, sizedAnswer, gapAnswer, testedAnswer, countedAnswer, Outcome, Readable};
+ghost use Rattle.replace.specs.Places.{lineEnds, OwnLines};
+
+// The file with the new cue's written form in place of the bytes from one place up to another.
+fn put_file(
+    raw: &[u8],
+    start: usize,
+    end: usize,
+    text: &[u8],
+    row: [u64; 18],
+    out: &mut [u8],
+) -> usize
+    ensures { λ r. ⌜ Puts (inPlace (now (raw .entry)) start end (now (text .entry)) row) 0 (now (out .entry)) r (now (out .exit)) ⌝ }
+{
+    let name = part(text, row[16] as usize, row[17] as usize);
+    let words = testing::cue_words(row);
+    let own = bytes(part(raw, 0, start), out, 0);
+    let behind = forms::cue_named(text, words, 0 < name.len(), name, out, own);
+    bytes(part(raw, end, raw.len()), out, behind)
+}
+
+// The checks 1 (output) and 10, and the new file.
+fn replace_own(
+    raw: &[u8],
+    s: &[u8],
+    number: usize,
+    own: Span,
+    text: &[u8],
+    row: [u64; 18],
+    out: &mut [u8],
+) -> Replacing
+    requires { ⌜ (Readable (now raw) (now s)) × (OwnLines (now s) number (own .from) (own .to)) × (newCueFails (now text) row (regionNames (now s)) ≡ none) ⌝ }
+    ensures { λ r. ⌜ Outcome (newFile (now (raw .entry)) number (now (text .entry)) row) (now (out .entry)) (sizedAnswer (newFile (now (raw .entry)) number (now (text .entry)) row) (length (now (out .entry)))) r (now (out .exit)) ⌝ }
+{
+    let start = places::raw_start(raw, places::lines_before(s, own.from));
+    let end = places::raw_end(raw, places::lines_before(s, own.to));
+    let mut nothing = [0u8; 1];
+    let need = put_file(raw, start, end, text, row, &mut nothing);
+    if format::MAX_FILE < need {
+        return Replacing::FileTooLong;
+    }
+    if out.len() < need {
+        return Replacing::OutTooShort(need);
+    }
+    Replacing::File(put_file(raw, start, end, text, row, out))
+}
+
+// Is the line of a plain text before the one that has this place empty.
+fn gap_before(s: &[u8], place: usize) -> bool
+    requires { ⌜ (Plain (now s)) × (0 < lineEnds (take place (now s))) ⌝ }
+    ensures { λ r. ⌜ r ≡ isEmpty (getD (split (now (s .entry))) (lineEnds (take place (now (s .entry))) - 1) []) ⌝ }
+{
+    let before = places::lines_before(s, place) - 1;
+    places::raw_start(s, before) == places::raw_end(s, before)
+}
+
+// Does an identifier lack the empty line that it needs before the line that has this place.
+fn lacks_gap(s: &[u8], place: usize, id: &[u8]) -> bool
+    requires { ⌜ (Plain (now s)) × (0 < lineEnds (take place (now s))) ⌝ }
+    ensures { λ r. ⌜ r ≡ not (isEmpty (now (id .entry))) && not (isEmpty (getD (split (now (s .entry))) (lineEnds (take place (now (s .entry))) - 1) [])) ⌝ }
+{
+    if id.len() == 0 {
+        return false;
+    }
+    !gap_before(s, place)
+}
+
+// Check 9 and those behind it.
+fn replace_found(
+    raw: &[u8],
+    s: &[u8],
+    number: usize,
+    text: &[u8],
+    row: [u64; 18],
+    out: &mut [u8],
+) -> Replacing
+    requires { ⌜ (Readable (now raw) (now s)) × (number < length (lists (now s) .cues)) × (newCueFails (now text) row (regionNames (now s)) ≡ none) ⌝ }
+    ensures { λ r. ⌜ Outcome (newFile (now (raw .entry)) number (now (text .entry)) row) (now (out .entry)) (gapAnswer (now (raw .entry)) number (now (text .entry)) row (length (now (out .entry)))) r (now (out .exit)) ⌝ }
+{
+    let own = finding::find_cue(s, number);
+    let id = part(text, row[0] as usize, row[1] as usize);
+    if lacks_gap(s, own.from, id) {
+        return Replacing::NoGap;
+    }
+    replace_own(raw, s, number, own, text, row, out)
+}
+
+// Check 8 and those behind it.
+fn replace_there(
+    raw: &[u8],
+    s: &[u8],
+    number: usize,
+    text: &[u8],
+    row: [u64; 18],
+    out: &mut [u8],
+) -> Replacing
+    requires { ⌜ (Readable (now raw) (now s)) × (number < length (lists (now s) .cues)) ⌝ }
+    ensures { λ r. ⌜ Outcome (newFile (now (raw .entry)) number (now (text .entry)) row) (now (out .entry)) (testedAnswer (now (raw .entry)) number (now (text .entry)) row (length (now (out .entry)))) r (now (out .exit)) ⌝ }
+{
+    let test = testing::new_cue_test(s, text, row);
+    if test != 0 {
+        return Replacing::NotWritable { number, test };
+    }
+    replace_found(raw, s, number, text, row, out)
+}
+
+// Check 7 and those behind it, in a file with this many cues.
+fn replace_counted(
+    raw: &[u8],
+    s: &[u8],
+    count: usize,
+    number: usize,
+    text: &[u8],
+    row: [u64; 18],
+    out: &mut [u8],
+) -> Replacing
+    requires { ⌜ (Readable (now raw) (now s)) × (count ≡ length (lists (now s) .cues)) ⌝ }
+    ensures { λ r. ⌜ Outcome (newFile (now (raw .entry)) number (now (text .entry)) row) (now (out .entry)) (countedAnswer (now (raw .entry)) number (now (text .entry)) row (length (now (out .entry)))) r (now (out .exit)) ⌝ }
+{
+    if count <= number {
+        return Replacing::NoSuchCue(count);
+    }
+    replace_there(raw, s, number, text, row, out)
+}
+
+// The checks behind converting, in the file's plain text.
+fn replace_in(
+    raw: &[u8],
+    s: &[u8],
+    number: usize,
+    text: &[u8],
+    row: [u64; 18],
+    out: &mut [u8],
+) -> Replacing
+    requires { ⌜ (now s ≡ plainText (now raw)) × (length (now raw) ≤ maxFile) ⌝ }
+    ensures { λ r. ⌜ Outcome (newFile (now (raw .entry)) number (now (text .entry)) row) (now (out .entry)) (replacingText (now (raw .entry)) number (now (text .entry)) row (length (now (out .entry)))) r (now (out .exit)) ⌝ }
+{
+    match counting::count_cues(s) {
+        Counted::NoSignature => Replacing::NoSignature,
+        Counted::OverLimit => Replacing::OverLimit,
+        Counted::Cues(count) => replace_counted(raw, s, count, number, text, row, out),
+    }
+}
+
+// Replaces the cue with this number by the new cue, a row over a text lent with it. The new file stands at the start of the output room;
+// the scratch room holds the old file's plain text.
+pub fn replace_cue(
+    raw: &[u8],
+    number: usize,
+    text: &[u8],
+    row: [u64; 18],
+    scratch: &mut [u8],
+    out: &mut [u8],
+) -> Replacing
+    ensures answer { λ r. ⌜ replacingIs r ≡ replacing (now (raw .entry)) number (now (text .entry)) row (length (now (scratch .entry))) (length (now (out .entry))) ⌝ }
+    ensures scratch { λ _. ⌜ now (scratch .exit) ≡ convertedRoom (now (raw .entry)) (now (scratch .entry)) ⌝ }
+    ensures out { λ _. ⌜ now (out .exit) ≡ replacedRoom (now (raw .entry)) number (now (text .entry)) row (length (now (scratch .entry))) (now (out .entry)) ⌝ }
+    ensures replaced { λ r. ⌜ ((n : ℕ) → r ≡ Answer.File n → Replaced (now (raw .entry)) number (now (text .entry)) row) ⌝ }
+{
+    match plain::convert(raw, scratch) {
+        Converted::Text(n) => replace_in(raw, &scratch[..n], number, text, row, out),
+        Converted::TooLong => Replacing::RawTooLong,
+        Converted::RoomTooShort(n) => Replacing::ScratchTooShort(n),
+    }
+}
