@@ -1,7 +1,10 @@
 -- Answers as document 01 numbers them, and what lent memory holds after one.
 use Prim.Native.Nat.{ℕ}
-use mathlib.Core.List.{List, _++_}
+use mathlib.Core.Bool.{cond}
+use mathlib.Core.List.{List, [], _∷_, _++_}
+use lib.Dec.{ltb}
 use lib.ListN.{length, drop}
+use Rattle.format.specs.Limits.{maxFile}
 
 -- accepted, with the values handed back; or refused by number, with what is returned with it
 pub data Answer : Type 0 where
@@ -16,6 +19,12 @@ ifAccepted (refused n vs) a b = b
 -- the next answer where this one accepts
 unfoldable pub andThen : Answer → Answer → Answer
 andThen answer next = ifAccepted answer next answer
+
+-- what making a file answers, in an output room of this length: 1 (file to be made), 10 with the length needed, else its length
+unfoldable pub fileAnswer : List ℕ → ℕ → Answer
+fileAnswer file room =
+    cond (ltb maxFile (length file)) (refused 1 [])
+    (cond (ltb room (length file)) (refused 10 (length file ∷ [])) (accepted (length file ∷ [])))
 
 -- lent room with a text at its start, its bytes beyond that text as they were;
 -- or a lent table with rows at its start

@@ -7,7 +7,6 @@ use mathlib.Core.Option.{Option, none, some}
 use lib.Dec.{eqb, ltb}
 use lib.ListN.{length, getD, set, take, drop}
 use Rattle.format.specs.Bytes.{lf, cr}
-use Rattle.format.specs.Limits.{maxFile}
 use Rattle.format.specs.Texts.{Part, startsWith, isEmpty, has}
 use Rattle.format.specs.Plain.{plainText}
 use Rattle.format.specs.Lines.{split, join}
@@ -17,7 +16,7 @@ use Rattle.format.specs.Lists.{Item, nothing, cue, style, region, meanin
 use Rattle.format.specs.Rows.{word, ids}
 use Rattle.format.specs.Parts.{bytesAt, partPlain, cueTest1}
 use Rattle.format.specs.Contents.{CueContents, Contents, contents}
-use Rattle.format.specs.Answers.{Answer, accepted, refused, ifAccepted, andThen, placed}
+use Rattle.format.specs.Answers.{Answer, accepted, refused, ifAccepted, andThen, fileAnswer, placed}
 use Rattle.format.specs.Converting.{converting}
 use Rattle.format.specs.Reading.{reading}
 use Rattle.format.specs.Writable.{cueOfWords, firstFailing, cueTest2, cueTest3, cueTest4, cueTest5}
@@ -188,9 +187,7 @@ replacingText raw number t w out =
     (cond (not (ltb number (length (lists (plainText raw) .cues)))) (refused 7 (length (lists (plainText raw) .cues) ∷ []))
     (unlessTest (newCueFails t w (regionNames (plainText raw))) number
     (cond (noGap (plainText raw) number t w) (refused 9 [])
-    (cond (ltb maxFile (length (newFile raw number t w))) (refused 1 [])
-    (cond (ltb out (length (newFile raw number t w))) (refused 10 (length (newFile raw number t w) ∷ []))
-    (accepted (length (newFile raw number t w) ∷ []))))))))
+    (fileAnswer (newFile raw number t w) out)))))
 
 -- the checks 1 (input), 2 are converting's, with the scratch room; the scratch room after replacing is `convertedRoom`
 unfoldable pub replacing : List ℕ → ℕ → List ℕ → List ℕ → ℕ → ℕ → Answer

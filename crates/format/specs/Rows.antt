@@ -197,20 +197,20 @@ cueOfRow w =
     }))
     CueDecoded.Bad
 
--- what a region's row says
-unfoldable pub regionOfRow : List ℕ → RegionDecoded
-regionOfRow w =
-    cond (regionCodesNamed w)
-    (RegionDecoded.Good
-    (record {
+-- a region's row as a record, and what the row says
+abbrev pub regionRecord : List ℕ → Region
+regionRecord w =
+    record {
       id = record { from = word 0 w; to = word 1 w };
       width = word 2 w;
       lines = word 3 w;
       anchor = record { x = word 4 w; y = word 5 w };
       viewport = record { x = word 6 w; y = word 7 w };
       scroll = scrollOf (word 8 w);
-    }))
-    RegionDecoded.Bad
+    }
+
+unfoldable pub regionOfRow : List ℕ → RegionDecoded
+regionOfRow w = cond (regionCodesNamed w) (RegionDecoded.Good (regionRecord w)) RegionDecoded.Bad
 
 -- the regions' identifiers, in their order
 unfoldable pub ids : List RegionValues → List (List ℕ)

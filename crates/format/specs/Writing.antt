@@ -6,7 +6,7 @@ use mathlib.Core.Option.{Option, none, some}
 use lib.Dec.{ltb}
 use lib.ListN.{length}
 use Rattle.format.specs.Limits.{maxFile}
-use Rattle.format.specs.Answers.{Answer, accepted, refused, ifAccepted, placed}
+use Rattle.format.specs.Answers.{Answer, accepted, refused, ifAccepted, fileAnswer, placed}
 use Rattle.format.specs.Writable.{contentsOfRows, cueFails, regionFails, styleFails}
 use Rattle.format.specs.Written.{written}
 use Rattle.format.specs.declared.Writing.{Writing}
@@ -43,9 +43,7 @@ writing s styles regions cues room =
     unlessFailing (firstIn 0 (styleFails s) 0 styles)
     (unlessFailing (firstIn 1 (regionFails s) 0 regions)
     (unlessFailing (firstIn 2 (cueFails s regions) 0 cues)
-    (cond (ltb maxFile (length (fileOf s styles regions cues))) (refused 1 [])
-    (cond (ltb room (length (fileOf s styles regions cues))) (refused 10 (length (fileOf s styles regions cues) ∷ []))
-    (accepted (length (fileOf s styles regions cues) ∷ []))))))
+    (fileAnswer (fileOf s styles regions cues) room)))
 
 -- the output room after writing
 unfoldable pub writtenRoom : List ℕ → List (List ℕ) → List (List ℕ) → List (List ℕ) → List ℕ → List ℕ

@@ -6,7 +6,7 @@ use mathlib.Core.Option.{Option, none, some}
 use lib.Dec.{eqb, ltb}
 use Rattle.format.specs.Bytes.{ascii}
 use Rattle.format.specs.Lines.{join}
-use Rattle.format.specs.Rows.{word, directionOf, lineOf, lineAlignOf, positionOf, positionAlignOf, alignOf, scrollOf}
+use Rattle.format.specs.Rows.{word, directionOf, lineOf, lineAlignOf, positionOf, positionAlignOf, alignOf}
 use Rattle.format.specs.Parts.{bytesAt}
 use Rattle.format.specs.Contents.{RegionContents}
 use Rattle.format.specs.Writable.{unsignedZero}
@@ -47,18 +47,7 @@ unfoldable pub cueForm : List ℕ → List ℕ → Option (List ℕ) → List �
 cueForm s w name =
     join (linesOf (bytesAt s (word 0 w) (word 1 w)) ++ timingForm w name ∷ linesOf (bytesAt s (word 4 w) (word 5 w)))
 
--- a region's row as a record, and the contents of a record
-abbrev pub regionRecord : List ℕ → Region
-regionRecord w =
-    record {
-      id = record { from = word 0 w; to = word 1 w };
-      width = word 2 w;
-      lines = word 3 w;
-      anchor = record { x = word 4 w; y = word 5 w };
-      viewport = record { x = word 6 w; y = word 7 w };
-      scroll = scrollOf (word 8 w);
-    }
-
+-- the contents of a region's record
 unfoldable pub recordContents : List ℕ → Region → RegionContents
 recordContents s r =
     record {

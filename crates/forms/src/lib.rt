@@ -4,7 +4,6 @@ mod settings;
 use format::regions::Point;
 use format::regions::Region;
 use format::regions::Scroll;
-use format::settings::Span;
 use output::byte;
 use output::bytes;
 use output::number;
@@ -18,12 +17,12 @@ ghost use lib.ListN.{getD};
 ghost use Rattle.format.specs.Bytes.{lf};
 ghost use Rattle.format.specs.Texts.{isEmpty};
 ghost use Rattle.format.specs.Lines.{endedLines, join};
-ghost use Rattle.format.specs.Rows.{word, scrollOf};
+ghost use Rattle.format.specs.Rows.{word};
 ghost use Rattle.format.specs.Parts.{bytesAt};
 ghost use Rattle.format.specs.Writable.{cueOfWords, regionOfWords, styleOfWords};
 ghost use Rattle.format.specs.Written.{writtenPoint, writtenId, writtenScroll, regionLines, styleLines, cueLines};
 ghost use Rattle.output.specs.Puts.{Puts};
-ghost use Rattle.forms.specs.Forms.{asked, timingForm, cueForm, numberLines, regionRecord, recordContents};
+ghost use Rattle.forms.specs.Forms.{asked, timingForm, cueForm, numberLines, recordContents};
 
 // A text and a line end behind it; nothing where it is empty.
 fn line_before(s: &[u8], out: &mut [u8], at: usize) -> usize
@@ -148,38 +147,6 @@ pub fn region(text: &[u8], region: Region, out: &mut [u8], at: usize) -> usize
     let name = bytes(b"REGION", out, at);
     let numbers = identifier(part(text, id.from, id.to), out, name);
     region_numbers(region, out, numbers)
-}
-
-fn scroll_of(word: u64) -> Scroll
-    ensures { λ r. ⌜ r ≡ scrollOf word ⌝ }
-{
-    match word {
-        0 => Scroll::None,
-        _ => Scroll::Up,
-    }
-}
-
-// A region's row as a record.
-pub fn region_of(row: [u64; 9]) -> Region
-    ensures { λ r. ⌜ r ≡ regionRecord row ⌝ }
-{
-    Region {
-        id: Span {
-            from: row[0] as usize,
-            to: row[1] as usize,
-        },
-        width: row[2],
-        lines: row[3],
-        anchor: Point {
-            x: row[4],
-            y: row[5],
-        },
-        viewport: Point {
-            x: row[6],
-            y: row[7],
-        },
-        scroll: scroll_of(row[8]),
-    }
 }
 
 // One style text without a last line end.

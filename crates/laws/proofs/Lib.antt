@@ -16,3 +16,4 @@ pub mod Tokens
 pub mod Standing
 pub mod Contents
 pub mod Names
+pub mod Answers

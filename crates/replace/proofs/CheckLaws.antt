@@ -16,9 +16,9 @@ use Rattle.format.specs.Rows.{word, cueCodesNamed}
 use Rattle.format.specs.Blocks.{hasSignature}
 use Rattle.format.specs.Lists.{items, lists, anyOver}
 use Rattle.format.specs.Parts.{bytesAt, partPlain, cueTest1}
-use Rattle.format.specs.Answers.{ifAccepted}
+use Rattle.format.specs.Answers.{ifAccepted, fileAnswer}
 use Rattle.format.specs.Writable.{firstFailing, lineFits, positionFits, cueTest2, cueTest3, cueTest4, cueTest5}
-use Rattle.format.specs.Replacing.{emptyLine, rawLines, rawStart, rawEnd, newTest1, newTest6, newCueFails, regionNames, newFile, noGap, lineBefore, replacingIs, unlessTest, replacingText}
+use Rattle.format.specs.Replacing.{emptyLine, rawLines, rawStart, rawEnd, newTest1, newTest6, newCueFails, regionNames, newFile, noGap, lineBefore, replacingIs, unlessTest, replacingText, replacing, Replaced}
 use Rattle.format.specs.declared.Replacing.{Replacing}
 use Rattle.format.specs.declared.Replacing.the-variants as Replacing
 use Rattle.laws.proofs.Tests.{and-true}
@@ -27,10 +27,11 @@ use Rattle.laws.proofs.Plainness.{plain-absent}
 use Rattle.laws.proofs.PlainText.{plainText-length, plainText-plain}
 use Rattle.replaced.proofs.RawLines.{split-rawLines}
 use Rattle.replaced.proofs.CueBlocks.{cue-block-at}
+use Rattle.replaced.proofs.Files.{replaced}
 use Rattle.writable.specs.Faults.{testNumber}
 use Rattle.writable.proofs.FaultLaws.{fails-front, fails-behind, none-fails, number-is}
 use Rattle.replace.specs.Places.{lineEnds, OwnLines}
-use Rattle.replace.specs.NewCue.{cueRow, sizedAnswer, gapAnswer, testedAnswer, countedAnswer, Outcome, Readable}
+use Rattle.replace.specs.NewCue.{cueRow, gapAnswer, testedAnswer, countedAnswer, Outcome, Readable}
 
 by-length : (a : ℕ) (x : List ℕ) → eqb a (a + length x) ≡ isEmpty x
 unfolding isEmpty
@@ -128,7 +129,7 @@ module _ (raw : List ℕ) (number : ℕ) (t w out : List ℕ) where
   pub gap-passed :
       {r : Replacing} {room : List ℕ}
       → noGap (plainText raw) number t w ≡ false
-      → Outcome new out (sizedAnswer new (length out)) r room
+      → Outcome new out (fileAnswer new (length out)) r room
       → Outcome new out (gapAnswer raw number t w (length out)) r room
   unfolding gapAnswer
   gap-passed e h = rw e h
@@ -183,7 +184,7 @@ module _ (raw : List ℕ) (number : ℕ) (t w out : List ℕ) where
         → anyOver (items s) ≡ false
         → Outcome new out (countedAnswer raw number t w (length out)) r room
         → Outcome new out (replacingText raw number t w (length out)) r room
-    unfolding replacingText countedAnswer testedAnswer gapAnswer sizedAnswer
+    unfolding replacingText countedAnswer testedAnswer gapAnswer
     file-passed e o f = rw (rw q at e, rw q at o) f
 
     pub plain-text : Plain s
@@ -191,3 +192,11 @@ module _ (raw : List ℕ) (number : ℕ) (t w out : List ℕ) where
 
     pub text-size : length raw ≤ maxFile → length s ≤ maxText
     text-size h = rw q (omega (arith, plainText-length raw))
+
+-- an accepting answer is demand 3
+pub accepted-is :
+    (raw : List ℕ) (number : ℕ) (t w : List ℕ) (scratch out : ℕ) (r : Replacing)
+    → replacingIs r ≡ replacing raw number t w scratch out
+    → (n : ℕ) → r ≡ Replacing.File n → Replaced raw number t w
+unfolding replacingIs
+accepted-is raw number t w scratch out r e n q = replaced raw number t w scratch out (n ∷ []) (sym e ∙ ap replacingIs q)

@@ -8,13 +8,12 @@ use native.Mathlib.Omega.{arith}
 use lib.Dec.{ltb}
 use lib.ListN.{length, take, drop, length-drop}
 use lib.Seq.{take-all}
-use borrow.Author.Tests.{lt-ltb, le-ltb}
+use borrow.Author.Tests.{lt-ltb}
 use Rattle.format.specs.Limits.{maxFile}
-use Rattle.format.specs.Answers.{ifAccepted}
+use Rattle.format.specs.Answers.{ifAccepted, fileAnswer}
 use Rattle.format.specs.declared.Replacing.the-variants as Replacing
 use Rattle.output.specs.Puts.{Puts}
-use Rattle.output.proofs.PutLaws.{measured, stands}
-use Rattle.writer.proofs.WriteLaws.{exact, above}
+use Rattle.output.proofs.FileLaws as File
 use Rattle.format.specs.Texts.{isEmpty}
 use Rattle.format.specs.Plain.{plainText}
 use Rattle.format.specs.Rows.{word}
@@ -29,7 +28,7 @@ use Rattle.laws.proofs.Tests.{by-test}
 use Rattle.roundtrip.proofs.Shape.{none-fails}
 use Rattle.replaced.proofs.Asked.{names-are, asked-name}
 use Rattle.forms.specs.Forms.{asked, namedRegion, settingsForm, timingForm, cueForm}
-use Rattle.replace.specs.NewCue.{cueRow, lentForm, inPlace, sizedAnswer, Outcome}
+use Rattle.replace.specs.NewCue.{cueRow, lentForm, inPlace, Outcome}
 use Rattle.replace.specs.Places.{lineEnds, OwnLines}
 
 pub front-part : (s : List ℕ) (n : ℕ) → bytesAt s 0 n ≡ take n s
@@ -98,32 +97,20 @@ file-is raw s t w number from to start end e own passed a b =
     rw (a, b, ← (own .first), ← (own .last), form-is s t w passed, e) refl
 
 -- what was measured decides the answer
-module _ (new out : List ℕ) where
-  pub too-long : {o p : List ℕ} {n : ℕ} → Puts new 0 o n p → maxFile < n → Outcome new out (sizedAnswer new (length out)) Replacing.FileTooLong out
-  unfolding sizedAnswer replacingIs ifAccepted
-  too-long f h = rw (lt-ltb maxFile (length new) (above f h)) (record { answer = refl; holds = refl })
+module _ (new out : List ℕ) {o p : List ℕ} {n : ℕ} (f : Puts new 0 o n p) where
+  pub too-long : maxFile < n → Outcome new out (fileAnswer new (length out)) Replacing.FileTooLong out
+  unfolding replacingIs ifAccepted
+  too-long h = rw (File.too-long new out f h) (record { answer = refl; holds = refl })
 
-  pub too-short :
-      {o p : List ℕ} {n : ℕ}
-      → Puts new 0 o n p
-      → n ≤ maxFile
-      → length out < n
-      → Outcome new out (sizedAnswer new (length out)) (Replacing.OutTooShort n) out
-  unfolding sizedAnswer replacingIs ifAccepted
-  too-short {o} {p} {n} f h l =
-      let is = exact f h in
-      rw (is, le-ltb maxFile (length new) (omega arith), lt-ltb (length out) (length new) (omega arith)) (record { answer = refl; holds = refl })
+  pub too-short : n ≤ maxFile → length out < n → Outcome new out (fileAnswer new (length out)) (Replacing.OutTooShort n) out
+  unfolding replacingIs ifAccepted
+  too-short h l = rw (File.too-short new out f h l) (record { answer = refl; holds = refl })
 
   pub fits :
-      {o p q : List ℕ} {n m : ℕ}
-      → Puts new 0 o n p
+      {q : List ℕ} {m : ℕ}
       → n ≤ maxFile
       → n ≤ length out
       → Puts new 0 out m q
-      → Outcome new out (sizedAnswer new (length out)) (Replacing.File m) q
-  unfolding sizedAnswer replacingIs ifAccepted
-  fits {o} {p} {q} {n} {m} f h l g =
-      let is = exact f h in
-      let same = measured g (omega arith) in
-      rw (same, le-ltb maxFile (length new) (omega arith), le-ltb (length out) (length new) (omega arith))
-      (record { answer = refl; holds = stands g (omega arith) (omega arith) })
+      → Outcome new out (fileAnswer new (length out)) (Replacing.File m) q
+  unfolding replacingIs ifAccepted
+  fits h l g = rw (File.fits new out f h l g) (record { answer = refl; holds = File.holds new out f h l g })

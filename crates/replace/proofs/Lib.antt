@@ -4,4 +4,3 @@ pub mod FindLaws
 pub mod FileLaws
 pub mod CountLaws
 pub mod CheckLaws
-pub mod ConvertLaws

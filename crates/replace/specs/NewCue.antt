@@ -11,7 +11,7 @@ use Rattle.format.specs.Plain.{plainText}
 use Rattle.format.specs.Blocks.{hasSignature}
 use Rattle.format.specs.Lists.{items, lists, anyOver}
 use Rattle.format.specs.Rows.{word}
-use Rattle.format.specs.Answers.{Answer, accepted, refused, ifAccepted, placed}
+use Rattle.format.specs.Answers.{Answer, refused, ifAccepted, fileAnswer, placed}
 use Rattle.format.specs.Replacing.{nameLent, newCueFails, regionNames, newFile, noGap, replacingIs, unlessTest}
 use Rattle.format.specs.declared.Replacing.{Replacing}
 use Rattle.forms.specs.Forms.{asked, cueForm}
@@ -46,16 +46,10 @@ lentForm t w = cueForm t (cueRow w) (asked (not (isEmpty (nameLent t w))) (nameL
 unfoldable pub inPlace : List ℕ → ℕ → ℕ → List ℕ → List ℕ → List ℕ
 inPlace raw start end t w = take start raw ++ lentForm t w ++ drop end raw
 
--- what replacing answers behind its last test of the cue: 1 (output), 10, else the new file's length
-unfoldable pub sizedAnswer : List ℕ → ℕ → Answer
-sizedAnswer new out =
-    cond (ltb maxFile (length new)) (refused 1 [])
-    (cond (ltb out (length new)) (refused 10 (length new ∷ [])) (accepted (length new ∷ [])))
-
--- what it answers behind the new cue's tests, and behind the count of cues
+-- what replacing answers behind the new cue's tests, and behind the count of cues
 unfoldable pub gapAnswer : List ℕ → ℕ → List ℕ → List ℕ → ℕ → Answer
 gapAnswer raw number t w out =
-    cond (noGap (plainText raw) number t w) (refused 9 []) (sizedAnswer (newFile raw number t w) out)
+    cond (noGap (plainText raw) number t w) (refused 9 []) (fileAnswer (newFile raw number t w) out)
 
 unfoldable pub testedAnswer : List ℕ → ℕ → List ℕ → List ℕ → ℕ → Answer
 testedAnswer raw number t w out =

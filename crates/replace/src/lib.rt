@@ -22,12 +22,12 @@ ghost use Rattle.format.specs.Lines.{split};
 ghost use Rattle.format.specs.Limits.{maxFile, maxText};
 ghost use Rattle.format.specs.Plain.{plainText, Plain};
 ghost use Rattle.format.specs.Lists.{items, lists, anyOver};
-ghost use Rattle.format.specs.Answers.{ifAccepted, placed};
+ghost use Rattle.format.specs.Answers.{fileAnswer};
 ghost use Rattle.format.specs.Converting.{convertedRoom};
 ghost use Rattle.format.specs.Replacing.{newCueFails, regionNames, newFile, replacingIs, replacingText, replacing, replacedRoom, Replaced};
 ghost use Rattle.format.specs.declared.Replacing.the-variants as Answer;
 ghost use Rattle.output.specs.Puts.{Puts};
-ghost use Rattle.replace.specs.NewCue.{inPlace, sizedAnswer, gapAnswer, testedAnswer, countedAnswer, Outcome, Readable};
+ghost use Rattle.replace.specs.NewCue.{inPlace, gapAnswer, testedAnswer, countedAnswer, Outcome, Readable};
 ghost use Rattle.replace.specs.Places.{lineEnds, OwnLines};
 
 // The file with the new cue's written form in place of the bytes from one place up to another.
@@ -59,7 +59,7 @@ fn replace_own(
     out: &mut [u8],
 ) -> Replacing
     requires { ⌜ (Readable (now raw) (now s)) × (OwnLines (now s) number (own .from) (own .to)) × (newCueFails (now text) row (regionNames (now s)) ≡ none) ⌝ }
-    ensures { λ r. ⌜ Outcome (newFile (now (raw .entry)) number (now (text .entry)) row) (now (out .entry)) (sizedAnswer (newFile (now (raw .entry)) number (now (text .entry)) row) (length (now (out .entry)))) r (now (out .exit)) ⌝ }
+    ensures { λ r. ⌜ Outcome (newFile (now (raw .entry)) number (now (text .entry)) row) (now (out .entry)) (fileAnswer (newFile (now (raw .entry)) number (now (text .entry)) row) (length (now (out .entry)))) r (now (out .exit)) ⌝ }
 {
     let start = places::raw_start(raw, places::lines_before(s, own.from));
     let end = places::raw_end(raw, places::lines_before(s, own.to));
@@ -176,8 +176,8 @@ fn replace_in(
 pub fn replace_cue(
     raw: &[u8],
     number: usize,
-    text: &[u8],
     row: [u64; 18],
+    text: &[u8],
     scratch: &mut [u8],
     out: &mut [u8],
 ) -> Replacing

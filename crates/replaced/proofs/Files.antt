@@ -2,7 +2,7 @@
 -- replaced, and is refused by no number but 2 and 6.
 use Prim.Native.Nat.{ℕ, zero, suc, _+_, _-_, _≤_, _<_}
 use mathlib.Core.Path.{_≡_, refl, ap, _∙_}
-use mathlib.Core.Bool.{Bool, true, false, cond, not, _||_}
+use mathlib.Core.Bool.{true, false, not, _||_}
 use mathlib.Core.List.{List, [], _∷_, _++_, append-assoc}
 use mathlib.Core.Option.{Option, none, some}
 use native.Mathlib.Omega.{arith}
@@ -15,31 +15,23 @@ use Rattle.format.specs.Plain.{plainText, firstNotPlain}
 use Rattle.format.specs.Lines.{split}
 use Rattle.format.specs.Blocks.{hasSignature}
 use Rattle.format.specs.Lists.{items, lists, anyOver}
-use Rattle.format.specs.Answers.{Answer, accepted, refused, ifAccepted, andThen}
+use Rattle.format.specs.Answers.{Answer, accepted, ifAccepted, andThen, fileAnswer}
 use Rattle.format.specs.Converting.{converting}
 use Rattle.format.specs.Reading.{reading}
 use Rattle.format.specs.Writable.{cueOfWords}
 use Rattle.format.specs.Replacing.{cueBlocks, firstLine, lastLine, ownStart, ownEnd, cueAsked, newCueFails, withRegion, regionNames, newForm, newFile, noGap, unlessTest, replacingText, replacing, refusedOnlyBy, Replaced}
 use Rattle.laws.proofs.Tests.{by-test}
+use Rattle.laws.proofs.Answers.{behind-test, behind-answer}
 use Rattle.laws.proofs.PlainText.{plainText-length, plainText-plain}
 use Rattle.replaced.proofs.RawLines.{lines-replaced, signature-first}
 use Rattle.replaced.proofs.CueBlocks.{cue-block-at, lines-read}
 use Rattle.replaced.proofs.Asked.{asked-writable, form-plain, form-begins}
 
--- an answer that accepts was refused by no test
-pub behind-test : (t : Bool) (n : ℕ) (us vs : List ℕ) (a : Answer) → cond t (refused n us) a ≡ accepted vs → (t ≡ false) × (a ≡ accepted vs)
-behind-test true n us vs a e = let z : _≡_ {A = ℕ} 0 1 = cc in absurd (omega arith)
-behind-test false n us vs a e = (refl, e)
-
+-- a new cue that fails a test is refused
 behind-option : (o : Option ℕ) (n : ℕ) (vs : List ℕ) (a : Answer) → unlessTest o n a ≡ accepted vs → (o ≡ none) × (a ≡ accepted vs)
 unfolding unlessTest
 behind-option none n vs a e = (refl, e)
 behind-option (some test) n vs a e = let z : _≡_ {A = ℕ} 0 1 = cc in absurd (omega arith)
-
-behind-answer : (a b : Answer) (vs : List ℕ) → andThen a b ≡ accepted vs → b ≡ accepted vs
-unfolding andThen ifAccepted
-behind-answer (accepted us) b vs e = e
-behind-answer (refused n us) b vs e = let z : _≡_ {A = ℕ} 0 1 = cc in absurd (omega arith)
 
 -- what an accepting answer says of the file and the new cue
 record Accepted (raw : List ℕ) (number : ℕ) (t w : List ℕ) : Type 0 where
@@ -54,7 +46,7 @@ accepts :
     (raw : List ℕ) (number : ℕ) (t w : List ℕ) (scratch out : ℕ) (vs : List ℕ)
     → replacing raw number t w scratch out ≡ accepted vs
     → Accepted raw number t w
-unfolding replacing replacingText
+unfolding replacing replacingText fileAnswer
 accepts raw number t w scratch out vs e =
     let s = plainText raw in
     let new = newFile raw number t w in

@@ -18,7 +18,7 @@ ghost use Prim.Native.Nat.{_-_, _<_};
 ghost use lib.ListN.{take};
 ghost use Rattle.format.specs.Texts.{same};
 ghost use Rattle.format.specs.RegionSettings.{lastNamed};
-ghost use Rattle.format.specs.Rows.{cueWords, regionWords, styleWords, cueOfRow, regionOfRow, indexIs, word};
+ghost use Rattle.format.specs.Rows.{cueWords, regionWords, styleWords, cueOfRow, regionRecord, regionOfRow, indexIs, word};
 ghost use Rattle.values.specs.Tokens.{partOf};
 
 // The row of a cue.
@@ -119,14 +119,11 @@ pub fn cue_entry(row: [u64; 17]) -> CueDecoded
     })
 }
 
-// What a region's row says.
-pub fn region_entry(row: [u64; 9]) -> RegionDecoded
-    ensures { λ r. ⌜ r ≡ regionOfRow row ⌝ }
+// A region's row as a record; a code that names no choice is not asked for.
+pub fn region_of(row: [u64; 9]) -> Region
+    ensures { λ r. ⌜ r ≡ regionRecord row ⌝ }
 {
-    if 2 <= row[8] {
-        return RegionDecoded::Bad;
-    }
-    RegionDecoded::Good(Region {
+    Region {
         id: Span {
             from: row[0] as usize,
             to: row[1] as usize,
@@ -142,7 +139,17 @@ pub fn region_entry(row: [u64; 9]) -> RegionDecoded
             y: row[7],
         },
         scroll: choices::scroll(row[8]),
-    })
+    }
+}
+
+// What a region's row says.
+pub fn region_entry(row: [u64; 9]) -> RegionDecoded
+    ensures { λ r. ⌜ r ≡ regionOfRow row ⌝ }
+{
+    if 2 <= row[8] {
+        return RegionDecoded::Bad;
+    }
+    RegionDecoded::Good(region_of(row))
 }
 
 // Is the identifier of a region's row this name.

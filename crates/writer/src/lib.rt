@@ -73,7 +73,7 @@ fn region_block(text: &[u8], row: [u64; 9], out: &mut [u8], at: usize) -> usize
     ensures { λ r. ⌜ Puts (blockForm (regionLines (regionOfWords (now (text .entry)) row))) at (now (out .entry)) r (now (out .exit)) ⌝ }
 {
     let start = byte(b'\n', out, at);
-    let end = forms::region(text, forms::region_of(row), out, start);
+    let end = forms::region(text, rows::region_of(row), out, start);
     byte(b'\n', out, end)
 }
 

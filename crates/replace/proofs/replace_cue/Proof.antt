@@ -6,7 +6,8 @@ use Rattle.format.specs.Answers.{ifAccepted, andThen}
 use Rattle.format.specs.Converting.{convertedIs}
 use Rattle.format.specs.Replacing.{replacingIs, replacing, replacedRoom}
 use Rattle.format.specs.declared.Replacing.the-variants as Replacing
-use Rattle.replace.proofs.ConvertLaws.{Converts, converts, accepted-is}
+use Rattle.laws.proofs.Answers.{Converts, converts}
+use Rattle.replace.proofs.CheckLaws.{accepted-is}
 use borrow.Author.Needs.{needs}
 use Rattle.replace.proofs.replace_cue.Statement.{statement}
 use Rattle.replace.proofs.replace_cue.Tie as tie

@@ -4,7 +4,7 @@ use lib.Seq.{length-take-le}
 use Rattle.format.specs.Answers.{ifAccepted, andThen}
 use Rattle.format.specs.Converting.{convertedIs}
 use Rattle.format.specs.Rewriting.{rewritingIs, numberOnly, lengths, readAndWrite, rewriting, rewrittenRoom, afterRewriting}
-use Rattle.rewriting.proofs.RewriteLaws.{Converts, converts}
+use Rattle.laws.proofs.Answers.{Converts, converts}
 use borrow.Author.Needs.{needs}
 use Rattle.rewriting.proofs.rewrite.Statement.{statement}
 use Rattle.rewriting.proofs.rewrite.Tie as tie

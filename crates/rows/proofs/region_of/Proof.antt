@@ -1,7 +1,8 @@
--- `forms::region_of` meets its contract.
+-- `rows::region_of` meets its contract.
+use mathlib.Core.Path.{refl}
 use borrow.Author.Needs.{needs}
-use Rattle.forms.proofs.region_of.Statement.{statement}
-use Rattle.forms.proofs.region_of.Tie as tie
+use Rattle.rows.proofs.region_of.Statement.{statement}
+use Rattle.rows.proofs.region_of.Tie as tie
 
 array-read-t5 : tie.Need-array-read-t5
 array-read-t5 c = search needs
@@ -27,14 +28,14 @@ array-read-t27 c = search needs
 array-read-t30 : tie.Need-array-read-t30
 array-read-t30 c = search needs
 
-array-read-scroll-of : tie.Need-array-read-scroll-of
-array-read-scroll-of c = search needs
+array-read-scroll : tie.Need-array-read-scroll
+array-read-scroll c = search needs
 
-scroll-of-requires : tie.Need-scroll-of-requires
-scroll-of-requires c κs = search needs
+scroll-requires : tie.Need-scroll-requires
+scroll-requires c κs = search needs
 
 returns : tie.Need-returns
-returns c = rw (c .scroll-of .ensures)
+returns c = rw (c .scroll .ensures) refl
 
 pub region-of-spec : {M : Type 1} → statement M
 region-of-spec =
@@ -48,6 +49,6 @@ region-of-spec =
     array-read-t23
     array-read-t27
     array-read-t30
-    array-read-scroll-of
-    scroll-of-requires
+    array-read-scroll
+    scroll-requires
     returns)

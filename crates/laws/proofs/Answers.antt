@@ -1,0 +1,54 @@
+-- Answers as chains of tests: what an accepting one says of each test, and what then stands at the start of lent memory.
+use Prim.Native.Nat.{ℕ, _≤_}
+use mathlib.Core.Path.{_≡_, refl, sym}
+use mathlib.Core.Bool.{Bool, true, false, cond}
+use mathlib.Core.List.{List, [], _∷_}
+use native.Mathlib.Omega.{arith}
+use lib.Dec.{ltb}
+use lib.ListN.{length, take, drop, length-append}
+use lib.Seq.{take-append-seam}
+use borrow.Author.Tests.{ltb-false}
+use Rattle.format.specs.Limits.{maxFile}
+use Rattle.format.specs.Plain.{plainText}
+use Rattle.format.specs.Answers.{Answer, accepted, refused, ifAccepted, andThen, placed}
+use Rattle.format.specs.Converting.{converting, convertedRoom}
+
+-- an answer that accepts was refused by no test, and by no answer before it
+pub behind-test : (t : Bool) (n : ℕ) (us vs : List ℕ) (a : Answer) → cond t (refused n us) a ≡ accepted vs → (t ≡ false) × (a ≡ accepted vs)
+behind-test true n us vs a e = let z : _≡_ {A = ℕ} 0 1 = cc in absurd (omega arith)
+behind-test false n us vs a e = (refl, e)
+
+pub behind-answer : (a b : Answer) (vs : List ℕ) → andThen a b ≡ accepted vs → b ≡ accepted vs
+unfolding andThen ifAccepted
+behind-answer (accepted us) b vs e = e
+behind-answer (refused n us) b vs e = let z : _≡_ {A = ℕ} 0 1 = cc in absurd (omega arith)
+
+-- what was placed stands at the start
+module _ {A : Type 0} (x room exit : List A) (n : ℕ) (e : exit ≡ placed x room) (h : n ≡ length x) where
+  pub front : take n exit ≡ x
+  unfolding placed
+  front = rw (e, h) (take-append-seam x (drop (length x) room))
+
+  pub reaches : n ≤ length exit
+  unfolding placed
+  reaches = rw e (omega (arith, length-append x (drop (length x) room)))
+
+-- where a raw file was converted, its plain text stands at the room's start
+pub record Converts (raw : List ℕ) (n : ℕ) (room : List ℕ) : Type 0 where
+  pub size : length raw ≤ maxFile
+  pub fits : n ≤ length room
+  pub text : take n room ≡ plainText raw
+
+pub converts :
+    (raw before : List ℕ) {n : ℕ} {room : List ℕ}
+    → accepted (n ∷ []) ≡ converting raw (length before)
+    → room ≡ convertedRoom raw before
+    → Converts raw n room
+unfolding converting convertedRoom ifAccepted
+converts raw before {n} {room} a e =
+    let s = plainText raw in
+    let within = behind-test (ltb maxFile (length raw)) 1 [] (n ∷ []) _ (sym a) in
+    let fitting = behind-test (ltb (length before) (length s)) 2 (length s ∷ []) (n ∷ []) _ (within .1) in
+    let h : n ≡ length s = cc (fitting .1) in
+    let stands : room ≡ placed s before = rw (← a) at e in
+    record { size = ltb-false maxFile (length raw) (within .0); fits = reaches s before room n stands h; text = front s before room n stands h }
