@@ -32,6 +32,9 @@ space = 0x20
 abbrev pub percent : ℕ
 percent = 0x25
 
+abbrev pub ampersand : ℕ
+ampersand = 0x26
+
 abbrev pub comma : ℕ
 comma = 0x2C
 
@@ -41,8 +44,17 @@ hyphen = 0x2D
 abbrev pub fullStop : ℕ
 fullStop = 0x2E
 
+abbrev pub solidus : ℕ
+solidus = 0x2F
+
 abbrev pub colon : ℕ
 colon = 0x3A
+
+abbrev pub semicolon : ℕ
+semicolon = 0x3B
+
+abbrev pub less : ℕ
+less = 0x3C
 
 abbrev pub greater : ℕ
 greater = 0x3E
@@ -58,6 +70,10 @@ replacement = 0xEF ∷ 0xBF ∷ 0xBD ∷ []
 -- ASCII digits
 unfoldable pub digit : ℕ → Bool
 digit b = leb 0x30 b && leb b 0x39
+
+-- alphanumeric ASCII characters
+unfoldable pub alphanumeric : ℕ → Bool
+alphanumeric b = digit b || (leb 0x41 b && leb b 0x5A) || (leb 0x61 b && leb b 0x7A)
 
 -- ASCII whitespace
 unfoldable pub white : ℕ → Bool

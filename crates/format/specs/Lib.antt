@@ -24,3 +24,5 @@ pub mod Parts
 pub mod Writing
 pub mod Rewriting
 pub mod Replacing
+pub mod CueText
+pub mod Trees

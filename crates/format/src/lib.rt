@@ -109,3 +109,19 @@ pub enum Replacing {
     // Refusal 10: the output room is shorter than the new file, which needs this many bytes.
     OutTooShort(usize),
 }
+
+// What reading one cue's text into nodes answers.
+pub enum Tree {
+    // The nodes' rows stand at the start of the table, and their strings at the start of the room: so many rows, and so many bytes.
+    Nodes { count: usize, used: usize },
+    // Refusal 1: the text is over MAX_TEXT bytes.
+    TextTooLong,
+    // Refusal 3: the first place that is not plain.
+    TextNotPlainAt(usize),
+    // Refusal 5: the hours of a timestamp tag are above their limit.
+    OverLimit,
+    // Refusal 2: the room is shorter than the strings, which need this many bytes.
+    RoomTooShort(usize),
+    // Refusal 6: there are more nodes than the table has rows; their count.
+    TableTooShort(usize),
+}

@@ -1,0 +1,213 @@
+-- A cue text's nodes: source document 000, section 6.4, "WebVTT cue text parsing rules", as document 01's flat list in order of appearance;
+-- how their strings stand in the lent room and their rows in the lent table; and what reading a cue text answers.
+use Prim.Native.Nat.{ℕ, suc, _+_}
+use mathlib.Core.Bool.{Bool, false, cond, not, _&&_, _||_}
+use mathlib.Core.List.{List, [], _∷_, _++_}
+use mathlib.Core.Option.{Option, none, some}
+use lib.Dec.{eqb, ltb}
+use lib.ListN.{length, drop}
+use Rattle.format.specs.Bytes.{ascii, fullStop}
+use Rattle.format.specs.Limits.{maxText}
+use Rattle.format.specs.Texts.{same, isEmpty}
+use Rattle.format.specs.Plain.{firstNotPlain}
+use Rattle.format.specs.Times.{Result, failed, got, Time, milliseconds, overHours}
+use Rattle.format.specs.Times as Times
+use Rattle.format.specs.CueText.{Token, stringToken, startTag, endTag, timestampTag, parted, cueTokens}
+use Rattle.format.specs.Answers.{Answer, accepted, refused, ifAccepted, placed}
+use Rattle.format.specs.declared.Tree.{Tree}
+use Rattle.format.specs.declared.Tree.the-variants as Tree
+
+-- the kinds of nodes, in document 01's order: those that have children, and then the two that have none
+pub data Kind : Type 0 where
+  class : Kind
+  italic : Kind
+  bold : Kind
+  underline : Kind
+  ruby : Kind
+  rubyText : Kind
+  voice : Kind
+  language : Kind
+  string : Kind
+  timestamp : Kind
+
+-- a node: the index of its parent, none where that is the root; its classes in one string; its value, of a string, a voice or a language; a
+-- timestamp's milliseconds
+pub record Node : Type 0 where
+  pub parent : Option ℕ
+  pub kind : Kind
+  pub classes : List ℕ
+  pub value : List ℕ
+  pub time : ℕ
+
+-- the word of a kind in a node's row
+abbrev pub kindWord : Kind → ℕ
+kindWord class = 0
+kindWord italic = 1
+kindWord bold = 2
+kindWord underline = 3
+kindWord ruby = 4
+kindWord rubyText = 5
+kindWord voice = 6
+kindWord language = 7
+kindWord string = 8
+kindWord timestamp = 9
+
+-- the kind of node that goes with a tag's name
+unfoldable pub kindNamed : List ℕ → Option Kind
+kindNamed name =
+    cond (same name (ascii "c")) (some class)
+    (cond (same name (ascii "i")) (some italic)
+    (cond (same name (ascii "b")) (some bold)
+    (cond (same name (ascii "u")) (some underline)
+    (cond (same name (ascii "ruby")) (some ruby)
+    (cond (same name (ascii "rt")) (some rubyText)
+    (cond (same name (ascii "v")) (some voice) (cond (same name (ascii "lang")) (some language) none)))))))
+
+unfoldable pub isKind : Option Kind → Kind → Bool
+isKind none k = false
+isKind (some j) k = eqb (kindWord j) (kindWord k)
+
+-- the nodes that are open, current first: the index and the kind of each
+pub record Open : Type 0 where
+  pub index : ℕ
+  pub kind : Kind
+
+unfoldable pub parentOf : List Open → Option ℕ
+parentOf [] = none
+parentOf (o ∷ path) = some (o .index)
+
+unfoldable pub kindOf : List Open → Option Kind
+kindOf [] = none
+kindOf (o ∷ path) = some (o .kind)
+
+-- 9, a start tag: the kind of node that is attached; "`rt` opens only directly inside ruby", and any other name is ignored
+unfoldable pub attached : List Open → List ℕ → Option Kind
+attached path name = cond (isKind (kindNamed name) rubyText && not (isKind (kindOf path) ruby)) none (kindNamed name)
+
+-- 9, an end tag: the nodes that stay open. The current node is left where the name is its own; `</ruby>` in a ruby text leaves both
+unfoldable pub leaving : Option Kind → List Open → List Open
+leaving named [] = []
+leaving named (o ∷ path) =
+    cond (isKind named (o .kind)) path
+    (cond (isKind named ruby && isKind (some (o .kind)) rubyText) (drop 1 path) (o ∷ path))
+
+-- "Classes of a node stand in one string parted by full stops, empty ones left out."
+unfoldable pub classString : List (List ℕ) → List ℕ
+classString [] = []
+classString (c ∷ cs) = cond (isEmpty c) (classString cs) (c ++ parted fullStop (classString cs))
+
+-- "A timestamp tag must be a time and nothing else."
+unfoldable pub nothingBehind : Result Time → Option Time
+nothingBehind failed = none
+nothingBehind (got t []) = some t
+nothingBehind (got t (b ∷ s)) = none
+
+unfoldable pub tagTime : List ℕ → Option Time
+tagTime value = nothingBehind (Times.timestamp value)
+
+-- the value of a node that a start tag attaches: a voice and a language have the annotation, the others none
+unfoldable pub valueFor : Kind → List ℕ → List ℕ
+valueFor k annotation = cond (isKind (some k) voice || isKind (some k) language) annotation []
+
+-- the nodes that a token gives: one, or none where it is ignored
+unfoldable pub element : Option ℕ → List ℕ → List ℕ → Option Kind → List Node
+element parent classes annotation none = []
+element parent classes annotation (some k) =
+    record { parent = parent; kind = k; classes = classes; value = valueFor k annotation; time = 0 } ∷ []
+
+unfoldable pub stamped : Option ℕ → Option Time → List Node
+stamped parent none = []
+stamped parent (some t) = record { parent = parent; kind = timestamp; classes = []; value = []; time = milliseconds t } ∷ []
+
+unfoldable pub made : List Open → Token → List Node
+made path (stringToken value) = record { parent = parentOf path; kind = string; classes = []; value = value; time = 0 } ∷ []
+made path (startTag name classes annotation) = element (parentOf path) (classString classes) annotation (attached path name)
+made path (endTag name) = []
+made path (timestampTag value) = stamped (parentOf path) (tagTime value)
+
+-- the nodes that are open behind a token, the node that it gives having this index: "let current be the newly created node object"
+unfoldable pub entering : ℕ → Option Kind → List Open → List Open
+entering index none path = path
+entering index (some k) path = record { index = index; kind = k } ∷ path
+
+unfoldable pub pathBehind : List Open → ℕ → Token → List Open
+pathBehind path index (stringToken value) = path
+pathBehind path index (startTag name classes annotation) = entering index (attached path name) path
+pathBehind path index (endTag name) = leaving (kindNamed name) path
+pathBehind path index (timestampTag value) = path
+
+-- 7 to 10: the nodes of tokens, the first having this index
+unfoldable pub nodesFrom : List Open → ℕ → List Token → List Node
+nodesFrom path index [] = []
+nodesFrom path index (t ∷ ts) = made path t ++ nodesFrom (pathBehind path index t) (index + length (made path t)) ts
+
+-- the nodes of a cue text
+unfoldable pub nodes : List ℕ → List Node
+nodes s = nodesFrom [] 0 (cueTokens s)
+
+-- refusal 5: "hours are at most 99,999 … but only where … the whole timestamp tag, reads"
+unfoldable pub timeOver : Option Time → Bool
+timeOver none = false
+timeOver (some t) = overHours t
+
+unfoldable pub tokenOver : Token → Bool
+tokenOver (stringToken value) = false
+tokenOver (startTag name classes annotation) = false
+tokenOver (endTag name) = false
+tokenOver (timestampTag value) = timeOver (tagTime value)
+
+unfoldable pub anyTimeOver : List Token → Bool
+anyTimeOver [] = false
+anyTimeOver (t ∷ ts) = tokenOver t || anyTimeOver ts
+
+-- the strings of nodes in the room, one after the other: "node by node (classes, then value)"
+unfoldable pub nodeStrings : List Node → List ℕ
+nodeStrings [] = []
+nodeStrings (n ∷ ns) = n .classes ++ n .value ++ nodeStrings ns
+
+-- where a string stands in the room, as two words; an empty one is 0, 0
+unfoldable pub placeWords : ℕ → List ℕ → List ℕ
+placeWords place [] = 0 ∷ 0 ∷ []
+placeWords place (b ∷ s) = place ∷ (place + length (b ∷ s)) ∷ []
+
+-- 0 for the root, else the index and one
+unfoldable pub parentWord : Option ℕ → ℕ
+parentWord none = 0
+parentWord (some i) = suc i
+
+-- the row of a node whose strings stand at a place: parent, kind, classes from and to, value from and to, milliseconds
+unfoldable pub nodeWords : ℕ → Node → List ℕ
+nodeWords place n =
+    parentWord (n .parent)
+    ∷ kindWord (n .kind)
+    ∷ placeWords place (n .classes) ++ placeWords (place + length (n .classes)) (n .value) ++ n .time ∷ []
+
+unfoldable pub nodeRows : ℕ → List Node → List (List ℕ)
+nodeRows place [] = []
+nodeRows place (n ∷ ns) = nodeWords place n ∷ nodeRows (place + length (n .classes) + length (n .value)) ns
+
+-- the number and the values of each case: the counts of nodes and of the room's bytes; refusal 2 with the length, 6 with the count
+unfoldable pub treeIs : Tree → Answer
+treeIs (Tree.Nodes count used) = accepted (count ∷ used ∷ [])
+treeIs Tree.TextTooLong = refused 1 []
+treeIs (Tree.TextNotPlainAt i) = refused 3 (i ∷ [])
+treeIs Tree.OverLimit = refused 5 []
+treeIs (Tree.RoomTooShort n) = refused 2 (n ∷ [])
+treeIs (Tree.TableTooShort n) = refused 6 (n ∷ [])
+
+-- what reading a cue text answers, with a room of this length and a table of this many rows: the checks 1, 3, 5, 2, 6 in this order
+unfoldable pub treeing : List ℕ → ℕ → ℕ → Answer
+treeing s room table =
+    cond (ltb maxText (length s)) (refused 1 [])
+    (cond (ltb (firstNotPlain s) (length s)) (refused 3 (firstNotPlain s ∷ []))
+    (cond (anyTimeOver (cueTokens s)) (refused 5 [])
+    (cond (ltb room (length (nodeStrings (nodes s)))) (refused 2 (length (nodeStrings (nodes s)) ∷ []))
+    (cond (ltb table (length (nodes s))) (refused 6 (length (nodes s) ∷ []))
+    (accepted (length (nodes s) ∷ length (nodeStrings (nodes s)) ∷ []))))))
+
+-- the room and the table after it
+unfoldable pub treeRoom : List ℕ → List ℕ → ℕ → List ℕ
+treeRoom s room table = ifAccepted (treeing s (length room) table) (placed (nodeStrings (nodes s)) room) room
+
+unfoldable pub treeTable : List ℕ → ℕ → List (List ℕ) → List (List ℕ)
+treeTable s room table = ifAccepted (treeing s room (length table)) (placed (nodeRows 0 (nodes s)) table) table

@@ -1,0 +1,3 @@
+-- What the tokens of a cue text are, as parts of it.
+pub mod Decoding
+pub mod Tags
