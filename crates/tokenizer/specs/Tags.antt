@@ -1,11 +1,12 @@
 -- A token as parts of the text: what each part stands for, and that it is the token at a place.
-use Prim.Native.Nat.{ℕ, _≤_, _<_, _+_}
+use Prim.Native.Nat.{ℕ, _≤_, _<_}
 use mathlib.Core.Path.{_≡_}
-use mathlib.Core.Bool.{Bool, cond, not, _&&_, _||_}
-use mathlib.Core.List.{List, [], _∷_}
+use mathlib.Core.Bool.{Bool, true, false, cond, not, _&&_, _||_}
+use mathlib.Core.List.{List, [], _∷_, _++_}
 use lib.Dec.{eqb}
-use lib.ListN.{length, drop}
-use Rattle.format.specs.Bytes.{fullStop, space, white}
+use lib.ListN.{length, getD, drop}
+use Rattle.format.specs.Bytes.{fullStop, solidus, space, digit, white}
+use Rattle.format.specs.Texts.{run, pastRun}
 use Rattle.format.specs.Lines.{onFirst}
 use Rattle.format.specs.Parts.{bytesAt}
 use Rattle.format.specs.CueText.{stringToken, startTag, endTag, timestampTag, blank, collapsed, cueTokens}
@@ -14,6 +15,8 @@ use Rattle.format.specs.declared.settings.Span.{Span}
 use Rattle.tokenizer.specs.Decoding.{decoded}
 use Rattle.tokenizer.specs.declared.Token.{Token}
 use Rattle.tokenizer.specs.declared.Token.the-variants as Token
+use Rattle.tokenizer.specs.declared.Stepped.{Stepped}
+use Rattle.tokenizer.specs.declared.Stepped.the-variants as Stepped
 
 -- a byte of a tag's name, or where full stops are passed of its name and classes
 unfoldable pub inName : Bool → ℕ → Bool
@@ -42,3 +45,56 @@ tokenIs s (Token.Start name classes annotation) =
     startTag (spanBytes s name) (classesOf (spanBytes s classes)) (collapsed white space (spanBytes s annotation))
 tokenIs s (Token.End p) = endTag (spanBytes s p)
 tokenIs s (Token.Timestamp p) = timestampTag (spanBytes s p)
+
+-- the parts of a token stand one after the other between two places, and what stands before an annotation begins with a full stop
+pub record StartIn (s : List ℕ) (from to : ℕ) (name classes annotation : Span) : Type 0 where
+  pub first : from ≤ name .from
+  pub named : name .from ≤ name .to
+  pub between : name .to ≡ classes .from
+  pub classed : classes .from ≤ classes .to
+  pub behind : classes .to ≡ annotation .from
+  pub annotated : annotation .from ≤ annotation .to
+  pub last : annotation .to ≤ to
+  pub inside : to ≤ length s
+  pub stop : classes .from < classes .to → eqb (getD s (classes .from) 0) fullStop ≡ true
+
+pub record SpanIn (s : List ℕ) (from to : ℕ) (p : Span) : Type 0 where
+  pub first : from ≤ p .from
+  pub ends : p .from ≤ p .to
+  pub last : p .to ≤ to
+  pub inside : to ≤ length s
+
+abbrev pub PartsIn : List ℕ → ℕ → ℕ → Token → Type 0
+PartsIn s from to (Token.String p) = SpanIn s from to p
+PartsIn s from to (Token.Start name classes annotation) = StartIn s from to name classes annotation
+PartsIn s from to (Token.End p) = SpanIn s from to p
+PartsIn s from to (Token.Timestamp p) = SpanIn s from to p
+
+-- the start tag of what stands between `<` and `>`, and the tag
+unfoldable pub startOf : List ℕ → List ℕ → CueText.Token
+startOf r x =
+    startTag (r ++ run (inName true) x) (classesOf (run (inName false) (pastRun (inName true) x)))
+    (collapsed white space (pastRun (inName false) (pastRun (inName true) x)))
+
+unfoldable pub tagOf : List ℕ → CueText.Token
+tagOf [] = startOf [] []
+tagOf (c ∷ x) = cond (eqb c solidus) (endTag x) (cond (digit c) (timestampTag (c ∷ x)) (startOf [] (c ∷ x)))
+
+pub record StartAt (s : List ℕ) (from to : ℕ) (t : Token) : Type 0 where
+  pub is : tokenIs s t ≡ startOf [] (bytesAt s from to)
+  pub parts : PartsIn s from to t
+
+pub record TagAt (s : List ℕ) (from to : ℕ) (t : Token) : Type 0 where
+  pub is : tokenIs s t ≡ tagOf (bytesAt s from to)
+  pub parts : PartsIn s from to t
+
+-- a token is the first of those from one place on, and the others are those from the next place on
+pub record TokenAt (s : List ℕ) (at : ℕ) (t : Token) (next : ℕ) : Type 0 where
+  pub moves : at < next
+  pub inside : next ≤ length s
+  pub first : cueTokens (drop at s) ≡ tokenIs s t ∷ cueTokens (drop next s)
+  pub parts : PartsIn s at next t
+
+abbrev pub StepAt : List ℕ → ℕ → Stepped → Type 0
+StepAt s at Stepped.None = length s ≤ at
+StepAt s at (Stepped.Next t next) = TokenAt s at t next

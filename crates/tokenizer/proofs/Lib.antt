@@ -1,0 +1,4 @@
+-- Laws of the tokenizer that this crate's proofs and those above it cite.
+pub mod Strings
+pub mod Tags
+pub mod Spans
