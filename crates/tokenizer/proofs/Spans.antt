@@ -16,7 +16,7 @@ use Rattle.format.specs.CueText.{startTag, blank, collapsed, cueTokens}
 use Rattle.laws.proofs.Tests.{by-test}
 use Rattle.laws.proofs.Runs.{RunAt, run-at, run-first, run-after, run-moves, drop-take}
 use Rattle.tokenizer.specs.Decoding.{decoded}
-use Rattle.tokenizer.specs.Tags.{inName, classesOf, spanBytes, tokenIs, startOf, tagOf, PartsIn, StartAt, TagAt, TokenAt}
+use Rattle.tokenizer.specs.Tags.{inName, classesOf, spanBytes, tokenIs, startOf, tagOf, PartsIn, StartAt, TagAt, Marked, TokenAt}
 use Rattle.tokenizer.specs.declared.Token.{Token}
 use Rattle.tokenizer.specs.declared.Token.the-variants as Token
 use Rattle.tokenizer.proofs.Strings.{notLess, string-token}
@@ -160,6 +160,16 @@ wider s (Token.Start n q r) a b c d f g h k =
 wider s (Token.End p) a b c d f g h k = record { first = omega (arith, k .first); ends = k .ends; last = omega (arith, k .last); inside = h }
 wider s (Token.Timestamp p) a b c d f g h k = record { first = omega (arith, k .first); ends = k .ends; last = omega (arith, k .last); inside = h }
 
+marks :
+    (s : List ℕ) (t : Token) (at to next : ℕ)
+    → (next < length s → to < next)
+    → PartsIn s (at + 1) to t
+    → Marked s at next t
+marks s (Token.String p) at to next h k = tt
+marks s (Token.Start n q r) at to next h k = (omega (arith, k .first), λ l. let m = h l in omega (arith, k .last))
+marks s (Token.End p) at to next h k = tt
+marks s (Token.Timestamp p) at to next h k = tt
+
 -- the token that begins at a place
 module _ (s : List ℕ) (at : ℕ) (h : at < length s) where
   opened : drop at s ≡ getD s at 0 ∷ drop (at + 1) s
@@ -181,6 +191,7 @@ module _ (s : List ℕ) (at : ℕ) (h : at < length s) where
         inside = r .inside;
         first = first ∙ rw (r .bytes, r .past);
         parts = record { first = omega arith; ends = omega arith; last = omega arith; inside = r .inside };
+        marked = tt;
       }
 
   module _ (to next : ℕ) (y : getD s at 0 ≡ less) (e : to ≡ at + 1 + length (run notGreater (drop (at + 1) s))) where
@@ -201,12 +212,14 @@ module _ (s : List ℕ) (at : ℕ) (h : at < length s) where
         → to ≤ next
         → next ≤ length s
         → at < next
+        → (next < length s → to < next)
         → drop 1 (drop to s) ≡ drop next s
         → TokenAt s at t next
-    tag-at t g l i m d =
+    tag-at t g l i m w d =
         record {
           moves = m;
           inside = i;
           first = tag-first d ∙ ap (λ u. u ∷ cueTokens (drop next s)) (sym (g .is));
           parts = wider s t at (at + 1) to next (omega arith) l i (g .parts);
+          marked = marks s t at to next w (g .parts);
         }

@@ -88,12 +88,20 @@ pub record TagAt (s : List ℕ) (from to : ℕ) (t : Token) : Type 0 where
   pub is : tokenIs s t ≡ tagOf (bytesAt s from to)
   pub parts : PartsIn s from to t
 
+-- a start tag's name stands behind `<`, and where the text goes on behind the tag, `>` stands behind its annotation
+abbrev pub Marked : List ℕ → ℕ → ℕ → Token → Type 0
+Marked s at next (Token.String p) = Unit
+Marked s at next (Token.Start name classes annotation) = (at < name .from) × (next < length s → annotation .to < next)
+Marked s at next (Token.End p) = Unit
+Marked s at next (Token.Timestamp p) = Unit
+
 -- a token is the first of those from one place on, and the others are those from the next place on
 pub record TokenAt (s : List ℕ) (at : ℕ) (t : Token) (next : ℕ) : Type 0 where
   pub moves : at < next
   pub inside : next ≤ length s
   pub first : cueTokens (drop at s) ≡ tokenIs s t ∷ cueTokens (drop next s)
   pub parts : PartsIn s at next t
+  pub marked : Marked s at next t
 
 abbrev pub StepAt : List ℕ → ℕ → Stepped → Type 0
 StepAt s at Stepped.None = length s ≤ at

@@ -43,7 +43,8 @@ returns-3 c =
     let s = at .args .text .now in
     let to = c .before .before .past2 .result in
     tag-at s (at .args .at) (c .before .before .before .before .before .if1 .left) to (to + 1) (c .before .before .before .if2 .left) (c .before .before .past2 .ensures)
-    (c .before .tag .result) (c .before .tag .ensures) (omega arith) (omega arith) (omega arith) (drop-drop 1 to s)
+    (c .before .tag .result) (c .before .tag .ensures) (omega arith) (omega arith) (omega arith) (λ l. omega arith)
+    (drop-drop 1 to s)
 
 returns-4 : tie.Need-returns-4
 returns-4 c =
@@ -53,7 +54,8 @@ returns-4 c =
     let none = drop-of-length-le s (c .if3 .left) in
     let bounds = tag-bounds s (at .args .at) (c .before .before .before .before .before .if1 .left) to 0 (c .before .before .before .if2 .left) (c .before .before .past2 .ensures) in
     tag-at s (at .args .at) (c .before .before .before .before .before .if1 .left) to to (c .before .before .before .if2 .left) (c .before .before .past2 .ensures)
-    (c .before .tag .result) (c .before .tag .ensures) (omega arith) (bounds .1) (omega (arith, bounds .0)) (rw none)
+    (c .before .tag .result) (c .before .tag .ensures) (omega arith) (bounds .1) (omega (arith, bounds .0)) (λ l. absurd (omega arith))
+    (rw none)
 
 pub step-spec : {M : Type 1} → statement M
 step-spec =
