@@ -1,0 +1,114 @@
+-- What the two loops keep from byte to byte, and that a turn keeps it.
+use Prim.Native.Nat.{ℕ, _+_, _≤_, _<_}
+use mathlib.Core.Path.{_≡_, refl, sym}
+use mathlib.Core.Bool.{Bool, true, false, cond, false≢true}
+use mathlib.Core.List.{List}
+use native.Mathlib.Omega.{arith}
+use lib.Dec.{ltb}
+use lib.ListN.{length, getD, drop}
+use borrow.Author.Tests.{lt-ltb, ltb-true}
+use Rattle.format.specs.Parts.{bytesAt}
+use Rattle.format.specs.CueText.{collapsed}
+use Rattle.tokenizer.specs.Decoding.{added, decodedFrom, decoded}
+use Rattle.strings.specs.Stores.{Stores, such, one}
+use Rattle.strings.specs.Turns.{heldBehind, word, left}
+use Rattle.strings.proofs.StoreLaws.{Storing, storing-none, storing-next, storing-same, storing-end, storing-last}
+use Rattle.strings.proofs.TextLaws.{
+  held-within,
+  decode-start,
+  decode-next,
+  decode-room,
+  decode-end,
+  collapse-start,
+  collapse-separator,
+  collapse-word,
+  collapse-end,
+  word-length,
+}
+
+-- decoding: what is held is still to be put, and what was put is no longer than what was let go
+pub record Decoding (s : List ℕ) (at : ℕ) (room₀ room : List ℕ) (held i n : ℕ) : Type 0 where
+  pub within : i ≤ length s
+  pub behind : held ≤ i
+  pub short : n ≤ at + held
+  pub storing : Storing (decoded s) (decodedFrom (bytesAt s held i) (drop i s)) at room₀ n room
+
+module _ (s : List ℕ) (at : ℕ) (room₀ : List ℕ) where
+  pub decoding-starts : Decoding s at room₀ room₀ 0 0 at
+  decoding-starts =
+      record {
+        within = omega arith;
+        behind = omega arith;
+        short = omega arith;
+        storing = storing-same (storing-none (decoded s) at room₀) (sym (decode-start s));
+      }
+
+  module _ (room : List ℕ) (held i n : ℕ) (f : Decoding s at room₀ room held i n) {r : List ℕ} {m : ℕ} where
+    pub decoding-again :
+        i < length s
+        → Stores (added (bytesAt s held i) (getD s i 0)) n room m r
+        → Decoding s at room₀ r (heldBehind held i (getD s i 0)) (i + 1) m
+    decoding-again l g =
+        record {
+          within = omega arith;
+          behind = held-within s held i (f .behind) (getD s i 0);
+          short = omega (arith, g .place, f .short, decode-room s held i (f .behind) l);
+          storing = storing-next (f .storing) (decode-next s held i (f .behind) l) g;
+        }
+
+    pub decoding-ends : length s ≤ i → Stores (bytesAt s held (length s)) n room m r → Stores (decoded s) at room₀ m r
+    decoding-ends l g = storing-last (storing-same (f .storing) (decode-end s held i (omega arith))) g
+
+-- collapsing: a gap stands open only behind a word, and what was put is no longer than what was passed, an open gap's separator counted
+pub record Collapsing (s : List ℕ) (stops : Bool) (at : ℕ) (room₀ room : List ℕ) (i n : ℕ) (gap : Bool) : Type 0 where
+  pub within : i ≤ length s
+  pub behind : at ≤ n
+  pub short : n + cond gap 1 0 ≤ at + i
+  pub opens : gap ≡ true → at < n
+  pub storing : Storing (collapsed (such stops) (one stops) s) (left (such stops) (one stops) gap (ltb at n) (drop i s)) at room₀ n room
+
+at-most-one : (t : Bool) → cond t 1 0 ≤ 1
+at-most-one true = omega arith
+at-most-one false = omega arith
+
+module _ (s : List ℕ) (stops : Bool) (at : ℕ) (room₀ : List ℕ) where
+  pub collapsing-starts : Collapsing s stops at room₀ room₀ 0 at false
+  collapsing-starts =
+      record {
+        within = omega arith;
+        behind = omega arith;
+        short = omega arith;
+        opens = λ e. absurd (false≢true e);
+        storing = storing-same (storing-none (collapsed (such stops) (one stops) s) at room₀) (sym (collapse-start (such stops) (one stops) at s));
+      }
+
+  module _ (room : List ℕ) (i n : ℕ) (gap : Bool) (f : Collapsing s stops at room₀ room i n gap) where
+    pub separator-passed : i < length s → such stops (getD s i 0) ≡ true → Collapsing s stops at room₀ room (i + 1) n (ltb at n)
+    separator-passed l e =
+        record {
+          within = omega arith;
+          behind = f .behind;
+          short = omega (arith, f .short, at-most-one gap, at-most-one (ltb at n));
+          opens = ltb-true at n;
+          storing = storing-same (f .storing) (collapse-separator (such stops) (one stops) s i l gap (ltb at n) e (λ g. lt-ltb at n (f .opens g)));
+        }
+
+    pub word-put :
+        {r : List ℕ} {m : ℕ}
+        → i < length s
+        → such stops (getD s i 0) ≡ false
+        → Stores (word gap (one stops) (getD s i 0)) n room m r
+        → Collapsing s stops at room₀ r (i + 1) m false
+    word-put {r} {m} l e g =
+        let more : m ≡ n + (cond gap 1 0 + 1) = rw (sym (word-length gap (one stops) (getD s i 0))) (g .place) in
+        let above : ltb at m ≡ true = lt-ltb at m (omega (arith, f .behind)) in
+        record {
+          within = omega arith;
+          behind = omega (arith, f .behind);
+          short = omega (arith, f .short);
+          opens = λ t. absurd (false≢true t);
+          storing = rw above (storing-next (f .storing) (collapse-word (such stops) (one stops) s i l gap (ltb at n) e) g);
+        }
+
+    pub collapsing-ends : length s ≤ i → Stores (collapsed (such stops) (one stops) s) at room₀ n room
+    collapsing-ends l = storing-end (storing-same (f .storing) (collapse-end (such stops) (one stops) s i gap (ltb at n) l))

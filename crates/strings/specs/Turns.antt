@@ -1,0 +1,19 @@
+-- What one byte of a text does to what is put: the state that the loops keep from byte to byte.
+use Prim.Native.Nat.{ℕ, _+_}
+use mathlib.Core.Bool.{Bool, false, cond, _&&_}
+use mathlib.Core.List.{List, [], _∷_}
+use lib.Dec.{eqb, ltb}
+use Rattle.format.specs.Bytes.{ampersand, alphanumeric}
+use Rattle.format.specs.CueText.{parted, collapsedFrom}
+
+-- where the held bytes begin behind the byte at `i`, given where they began before it
+unfoldable pub heldBehind : ℕ → ℕ → ℕ → ℕ
+heldBehind held i c = cond (eqb c ampersand) i (cond (ltb held i && alphanumeric c) held (i + 1))
+
+-- a byte that is no separator, behind the one separator where a gap stands open
+unfoldable pub word : Bool → ℕ → ℕ → List ℕ
+word gap one c = cond gap (one ∷ c ∷ []) (c ∷ [])
+
+-- what is still to be put of a text: where a gap stands open, its separator comes first, if anything follows
+unfoldable pub left : (ℕ → Bool) → ℕ → Bool → Bool → List ℕ → List ℕ
+left such one gap inside s = cond gap (parted one (collapsedFrom such one false s)) (collapsedFrom such one inside s)
