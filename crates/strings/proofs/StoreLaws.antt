@@ -5,7 +5,7 @@ use mathlib.Core.List.{List, [], _∷_, _++_, append-nil, append-assoc}
 use native.Mathlib.Omega.{arith}
 use native.Mathlib.Numerals.{add-one}
 use lib.ListN.{length, take, drop, set, length-set, length-append}
-use lib.Seq.{sets, sets-eq, set-out}
+use lib.Seq.{sets, sets-eq}
 use Rattle.strings.specs.Stores.{stored, Stores}
 
 pub stored-append : (at : ℕ) (x y room : List ℕ) → stored at (x ++ y) room ≡ stored (at + length x) y (stored at x room)

@@ -1,15 +1,15 @@
 -- Laws of the strings: their lengths, the turns of the loops that put them, and a tag's classes as one string.
-use Prim.Native.Nat.{ℕ, zero, suc, _+_, _-_, _≤_, _<_}
+use Prim.Native.Nat.{ℕ, suc, _+_, _-_, _≤_, _<_}
 use mathlib.Core.Path.{_≡_, refl, sym, ap, _∙_}
 use mathlib.Core.Bool.{Bool, true, false, not, cond, _&&_, false≢true}
-use mathlib.Core.List.{List, [], _∷_, _++_, append-nil, append-assoc}
+use mathlib.Core.List.{List, [], _∷_, _++_}
 use native.Mathlib.Omega.{arith}
 use native.Mathlib.Numerals.{add-one}
 use lib.Dec.{eqb, ltb}
 use lib.ListN.{length, getD, take, drop, length-append, length-take, length-drop, drop-of-length-le}
-use lib.Seq.{take-suc, drop-cons, take-all, getD-drop}
-use borrow.Author.Tests.{eq-eqb, ne-eqb, lt-ltb, le-ltb, eqb-true, ltb-true, ltb-false}
-use Rattle.format.specs.Bytes.{ascii, ampersand, semicolon, fullStop, alphanumeric, less, greater}
+use lib.Seq.{take-suc, drop-cons, getD-drop}
+use borrow.Author.Tests.{eq-eqb, ne-eqb, le-ltb, ltb-true, ltb-false}
+use Rattle.format.specs.Bytes.{ascii, ampersand, semicolon, fullStop, alphanumeric}
 use Rattle.format.specs.Texts.{same, isEmpty}
 use Rattle.format.specs.Lines.{onFirst}
 use Rattle.format.specs.Parts.{bytesAt}
@@ -17,7 +17,7 @@ use Rattle.format.specs.CueText.{escaped, parted, collapsing, collapsedFrom, co
 use Rattle.format.specs.Trees.{classString}
 use Rattle.tokenizer.specs.Decoding.{added, holding, decodedFrom, decoded}
 use Rattle.tokenizer.specs.Tags.{atStop, splitStops, classesOf}
-use Rattle.laws.proofs.Tests.{by-test}
+use Rattle.laws.proofs.Tests.{by-test, and-false}
 use Rattle.laws.proofs.Runs.{same-is}
 use Rattle.strings.specs.Stores.{such, one}
 use Rattle.strings.specs.Turns.{heldBehind, word, left}
@@ -82,11 +82,17 @@ escaped-length held =
     (omega (arith, length-append held (semicolon ∷ []))))))))
 
 -- a byte adds no more than it takes from what is held, and itself
-by-mark : (t : Bool) (b : ℕ) (held : List ℕ) (c : ℕ) (x y : List ℕ) → length x + length y ≤ suc (length held) + 1 → length (cond t (b ∷ held) x) + length (cond t (c ∷ []) y) ≤ suc (length held) + 1
+by-mark :
+    (t : Bool) (b : ℕ) (held : List ℕ) (c : ℕ) (x y : List ℕ)
+    → length x + length y ≤ suc (length held) + 1
+    → length (cond t (b ∷ held) x) + length (cond t (c ∷ []) y) ≤ suc (length held) + 1
 by-mark true b held c x y h = omega arith
 by-mark false b held c x y h = h
 
-by-kind : (t : Bool) (b : ℕ) (held : List ℕ) (c : ℕ) (x : List ℕ) → length x ≤ suc (length held) + 1 → length (cond t [] x) + length (cond t ((b ∷ held) ++ c ∷ []) []) ≤ suc (length held) + 1
+by-kind :
+    (t : Bool) (b : ℕ) (held : List ℕ) (c : ℕ) (x : List ℕ)
+    → length x ≤ suc (length held) + 1
+    → length (cond t [] x) + length (cond t ((b ∷ held) ++ c ∷ []) []) ≤ suc (length held) + 1
 by-kind true b held c x h = omega (arith, length-append held (c ∷ []))
 by-kind false b held c x h = omega arith
 
@@ -130,7 +136,12 @@ unfolding holding
 holding-data [] c e h = rw e refl
 holding-data (b ∷ held) c e h = absurd (omega arith)
 
-holding-more : (held : List ℕ) (c : ℕ) → eqb c ampersand ≡ false → 0 < length held → alphanumeric c ≡ true → holding held c ≡ held ++ c ∷ []
+holding-more :
+    (held : List ℕ) (c : ℕ)
+    → eqb c ampersand ≡ false
+    → 0 < length held
+    → alphanumeric c ≡ true
+    → holding held c ≡ held ++ c ∷ []
 unfolding holding
 holding-more [] c e h a = absurd (omega arith)
 holding-more (b ∷ held) c e h a = rw (e, a) refl
@@ -168,26 +179,41 @@ module _ (s : List ℕ) (held i : ℕ) (h : held ≤ i) where
       (λ n. by-test (ltb held i && alphanumeric c) (λ e. rw (n, e) (omega arith)) (λ e. rw (n, e) (omega arith)))
 
   module _ (l : i < length s) where
-    held-next : (c : ℕ) → getD s i 0 ≡ c → bytesAt s (heldBehind held i c) (i + 1) ≡ holding (bytesAt s held i) c
+    held-mark : (c : ℕ) → eqb c ampersand ≡ true → getD s i 0 ≡ c → bytesAt s (heldBehind held i c) (i + 1) ≡ holding (bytesAt s held i) c
     unfolding heldBehind
-    held-next c at =
-        let size = part-length s held i h (omega arith) in
-        by-test (eqb c ampersand)
-        (λ e.
+    held-mark c e at =
         rw (e, holding-mark (bytesAt s held i) c e)
-        (part-next s i i (omega arith) l ∙ rw (part-none s i, at) refl))
-        (λ n.
-        by-test (ltb held i)
-        (λ m.
-        by-test (alphanumeric c)
-        (λ a.
-        rw (n, m, a, holding-more (bytesAt s held i) c n (omega (arith, ltb-true held i m)) a)
-        (part-next s held i h l ∙ rw at refl))
-        (λ a. rw (n, m, a, holding-other (bytesAt s held i) c n a) (part-none s (i + 1))))
-        (λ m.
-        rw (n, m, holding-data (bytesAt s held i) c n (omega (arith, ltb-false held i m))) (part-none s (i + 1))))
+        (part-next s i i (omega arith) l ∙ rw (part-none s i, at) refl)
 
-    -- a turn of decoding, what is left behind it, and that what it puts is no longer than what it lets go
+    held-more :
+        (c : ℕ)
+        → eqb c ampersand ≡ false
+        → alphanumeric c ≡ true
+        → getD s i 0 ≡ c
+        → bytesAt s (heldBehind held i c) (i + 1) ≡ holding (bytesAt s held i) c
+    unfolding heldBehind
+    held-more c n a at =
+        let size = part-length s held i h (omega arith) in
+        by-test (ltb held i)
+        (λ m. rw (n, m, a, holding-more (bytesAt s held i) c n (omega (arith, ltb-true held i m)) a) (part-next s held i h l ∙ rw at refl))
+        (λ m. rw (n, m, holding-data (bytesAt s held i) c n (omega (arith, ltb-false held i m))) (part-none s (i + 1)))
+
+    held-other :
+        (c : ℕ)
+        → eqb c ampersand ≡ false
+        → alphanumeric c ≡ false
+        → bytesAt s (heldBehind held i c) (i + 1) ≡ holding (bytesAt s held i) c
+    unfolding heldBehind
+    held-other c n a =
+        rw (n, a, and-false (ltb held i) false refl, holding-other (bytesAt s held i) c n a) (part-none s (i + 1))
+
+    held-next : (c : ℕ) → getD s i 0 ≡ c → bytesAt s (heldBehind held i c) (i + 1) ≡ holding (bytesAt s held i) c
+    held-next c at =
+        by-test (eqb c ampersand)
+        (λ e. held-mark c e at)
+        (λ n. by-test (alphanumeric c) (λ a. held-more c n a at) (λ a. held-other c n a))
+
+    -- a turn of decoding: what is left behind it, and that what it puts is no longer than what it lets go
     pub decode-next :
         decodedFrom (bytesAt s held i) (drop i s)
         ≡ added (bytesAt s held i) (getD s i 0)
@@ -221,17 +247,17 @@ parted-length b [] = omega arith
 parted-length b (c ∷ s) = omega arith
 
 collapsing-length :
-    (t inside : Bool) (such : ℕ → Bool) (one b : ℕ) (s : List ℕ) → length (cond t (cond inside (parted one s) s) (b ∷ s)) ≤ length s + 1
-collapsing-length true true such one b s = parted-length one s
-collapsing-length true false such one b s = omega arith
-collapsing-length false inside such one b s = omega arith
+    (t inside : Bool) (one b : ℕ) (s : List ℕ) → length (cond t (cond inside (parted one s) s) (b ∷ s)) ≤ length s + 1
+collapsing-length true true one b s = parted-length one s
+collapsing-length true false one b s = omega arith
+collapsing-length false inside one b s = omega arith
 
 collapsed-from-length : (such : ℕ → Bool) (one : ℕ) (inside : Bool) (s : List ℕ) → length (collapsedFrom such one inside s) ≤ length s
 unfolding collapsedFrom collapsing
 collapsed-from-length such one inside [] = omega arith
 collapsed-from-length such one inside (b ∷ s) =
     let rest = collapsedFrom such one (not (such b)) s in
-    omega (arith, collapsing-length (such b) inside such one b rest, collapsed-from-length such one (not (such b)) s)
+    omega (arith, collapsing-length (such b) inside one b rest, collapsed-from-length such one (not (such b)) s)
 
 pub collapsed-length : (such : ℕ → Bool) (one : ℕ) (s : List ℕ) → length (collapsed such one s) ≤ length s
 unfolding collapsed

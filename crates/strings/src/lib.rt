@@ -175,7 +175,8 @@ fn put_word(stops: bool, gap: bool, c: u8, room: &mut [u8], at: usize) -> usize
     ensures { λ r. ⌜ Stores (word gap (one stops) c) at (now (room .entry)) r (now (room .exit)) ⌝ }
 {
     if gap {
-        let n = put(separator(stops), room, at);
+        let between = separator(stops);
+        let n = put(between, room, at);
         return put(c, room, n);
     }
     put(c, room, at)

@@ -1,4 +1,5 @@
 -- `strings::held_behind` meets its contract.
+use native.Mathlib.Omega.{arith}
 use mathlib.Core.Path.{refl, sym, _∙_}
 use borrow.Author.Tests.{eq-eqb, ne-eqb, lt-ltb, le-ltb}
 use Rattle.format.specs.Bytes.{ampersand}
@@ -18,7 +19,7 @@ returns-2 : tie.Need-returns-2
 unfolding heldBehind
 returns-2 c =
     let args = c .before .before .args in
-    rw (ne-eqb (args .c) ampersand (c .before .if1 .left), le-ltb (args .held) (args .i) (c .if2 .taken)) refl
+    rw (ne-eqb (args .c) ampersand (c .before .if1 .left), le-ltb (args .held) (args .i) (omega arith)) refl
 
 is-alphanumeric-requires : tie.Need-is-alphanumeric-requires
 is-alphanumeric-requires c κs = search needs
@@ -30,7 +31,7 @@ returns-3 c =
     let args = some .before .before .args in
     rw (
       ne-eqb (args .c) ampersand (some .before .if1 .left),
-      lt-ltb (args .held) (args .i) (some .if2 .left),
+      lt-ltb (args .held) (args .i) (omega arith),
       sym (c .before .is-alphanumeric .ensures) ∙ c .if3 .taken,
     ) refl
 
@@ -44,7 +45,7 @@ returns-4 c =
     let args = some .before .before .args in
     rw (
       ne-eqb (args .c) ampersand (some .before .if1 .left),
-      lt-ltb (args .held) (args .i) (some .if2 .left),
+      lt-ltb (args .held) (args .i) (omega arith),
       sym (c .before .is-alphanumeric .ensures) ∙ c .if3 .left,
     ) refl
 
