@@ -80,9 +80,10 @@ unfoldable pub kindOf : List Open → Option Kind
 kindOf [] = none
 kindOf (o ∷ path) = some (o .kind)
 
--- 9, a start tag: the kind of node that is attached; "`rt` opens only directly inside ruby", and any other name is ignored
-unfoldable pub attached : List Open → List ℕ → Option Kind
-attached path name = cond (isKind (kindNamed name) rubyText && not (isKind (kindOf path) ruby)) none (kindNamed name)
+-- 9, a start tag: the kind of node that is attached to a current node of this kind; "`rt` opens only directly inside ruby", and any other
+-- name is ignored
+unfoldable pub attached : Option Kind → List ℕ → Option Kind
+attached current name = cond (isKind (kindNamed name) rubyText && not (isKind current ruby)) none (kindNamed name)
 
 -- 9, an end tag: the nodes that stay open. The current node is left where the name is its own; `</ruby>` in a ruby text leaves both
 unfoldable pub leaving : Option Kind → List Open → List Open
@@ -121,7 +122,7 @@ stamped parent (some t) = record { parent = parent; kind = timestamp; classes = 
 
 unfoldable pub made : List Open → Token → List Node
 made path (stringToken value) = record { parent = parentOf path; kind = string; classes = []; value = value; time = 0 } ∷ []
-made path (startTag name classes annotation) = element (parentOf path) (classString classes) annotation (attached path name)
+made path (startTag name classes annotation) = element (parentOf path) (classString classes) annotation (attached (kindOf path) name)
 made path (endTag name) = []
 made path (timestampTag value) = stamped (parentOf path) (tagTime value)
 
@@ -132,7 +133,7 @@ entering index (some k) path = record { index = index; kind = k } ∷ path
 
 unfoldable pub pathBehind : List Open → ℕ → Token → List Open
 pathBehind path index (stringToken value) = path
-pathBehind path index (startTag name classes annotation) = entering index (attached path name) path
+pathBehind path index (startTag name classes annotation) = entering index (attached (kindOf path) name) path
 pathBehind path index (endTag name) = leaving (kindNamed name) path
 pathBehind path index (timestampTag value) = path
 
