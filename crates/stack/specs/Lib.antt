@@ -1,0 +1,2 @@
+-- The kinds that stand on a stack.
+pub mod Kinds
