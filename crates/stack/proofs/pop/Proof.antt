@@ -23,7 +23,7 @@ module _ (s : Stack) (words : List ℕ) (h : Holds s words) where
       record {
         is = sym (ap (drop 1) (kinds-some s words l));
         holds = record {
-          held = omega (arith, h .held);
+          held = omega arith;
           some = λ e. one (omega arith);
           small = pop-small (s .held - 1) (s .top) (rw more at (h .small));
           fits = h .fits;
@@ -45,7 +45,7 @@ module _ (s : Stack) (words : List ℕ) (h : Holds s words) where
           held = omega arith;
           some = λ z. omega arith;
           small = h .filled (s .full - 1) (omega arith);
-          fits = omega (arith, h .fits);
+          fits = omega arith;
           filled = λ i b. h .filled i (omega arith);
         };
       }
@@ -53,7 +53,7 @@ module _ (s : Stack) (words : List ℕ) (h : Holds s words) where
 returns : tie.Need-returns
 returns c =
     let at = c .before in
-    nothing (at .args .s) (at .args .words .now) (at .pre) (c .if1 .taken)
+    nothing (at .args .s) (at .args .words .now) (at .pre) (omega arith)
 
 sub-t8 : tie.Need-sub-t8
 sub-t8 c = search needs
@@ -70,7 +70,7 @@ shared-slice-read-t12 c = search needs
 returns-2 : tie.Need-returns-2
 returns-2 c =
     let at = c .before .before .before .before in
-    again (at .args .s) (at .args .words .now) (at .pre) (c .before .before .if2 .taken) (c .before .if3 .taken)
+    again (at .args .s) (at .args .words .now) (at .pre) (omega arith) (omega arith)
 
 sub-t13 : tie.Need-sub-t13
 sub-t13 c = search needs
@@ -78,7 +78,7 @@ sub-t13 c = search needs
 returns-3 : tie.Need-returns-3
 returns-3 c =
     let at = c .before .before in
-    within (at .args .s) (at .args .words .now) (at .pre) (omega (arith, c .before .if1 .left))
+    within (at .args .s) (at .args .words .now) (at .pre) (omega arith)
     (λ e. ⊎-elim (λ w. omega arith) (λ w. omega arith) (c .if2 .came))
 
 pub pop-spec : {M : Type 1} → statement M

@@ -79,17 +79,19 @@ add-t8 c = search needs
 mul-t9 : tie.Need-mul-t9
 mul-t9 c =
     let at = c .before in
-    omega (arith, room (at .args .s) (at .args .words .now) (at .args .kind) (at .pre .0) (at .pre .1) (c .if1 .taken))
+    let l : at .args .s .held < 21 = omega arith in
+    omega (arith, room (at .args .s) (at .args .words .now) (at .args .kind) (at .pre .0) (at .pre .1) l)
 
 add-t10 : tie.Need-add-t10
 add-t10 c =
     let at = c .before in
-    omega (arith, room (at .args .s) (at .args .words .now) (at .args .kind) (at .pre .0) (at .pre .1) (c .if1 .taken))
+    let l : at .args .s .held < 21 = omega arith in
+    omega (arith, room (at .args .s) (at .args .words .now) (at .args .kind) (at .pre .0) (at .pre .1) l)
 
 returns : tie.Need-returns
 returns c =
     let at = c .before in
-    within (at .args .s) (at .args .words .now) (at .args .kind) (at .pre .0) (at .pre .1) (c .if1 .taken)
+    within (at .args .s) (at .args .words .now) (at .args .kind) (at .pre .0) (at .pre .1) (omega arith)
 
 mul-words : tie.Need-mul-words
 mul-words c = search needs
@@ -97,7 +99,7 @@ mul-words c = search needs
 slice-write-words : tie.Need-slice-write-words
 slice-write-words c =
     let at = c .before in
-    omega (arith, length-kinds (at .args .s) (at .args .words .now), at .pre .2, c .if1 .left)
+    omega (arith, length-kinds (at .args .s) (at .args .words .now))
 
 add-t11 : tie.Need-add-t11
 add-t11 c = search needs
@@ -109,7 +111,7 @@ returns-2 : tie.Need-returns-2
 returns-2 c =
     let at = c .before in
     over (at .args .s) (at .args .words .now) (at .args .kind) (at .pre .0) (at .pre .1)
-    (omega (arith, at .pre .0 .held, c .if1 .left)) (slice-write-words c)
+    (omega arith) (slice-write-words c)
 
 pub push-spec : {M : Type 1} → statement M
 push-spec =

@@ -10,13 +10,13 @@ returns : tie.Need-returns
 unfolding topOf
 returns c =
     let at = c .before in
-    sym (ap topOf (kinds-none (at .args .s) (at .args .words .now) (at .pre) (c .if1 .taken)))
+    sym (ap topOf (kinds-none (at .args .s) (at .args .words .now) (at .pre) (omega arith)))
 
 returns-2 : tie.Need-returns-2
 unfolding topOf
 returns-2 c =
     let at = c .before in
-    sym (ap topOf (kinds-some (at .args .s) (at .args .words .now) (omega (arith, c .if1 .left))))
+    sym (ap topOf (kinds-some (at .args .s) (at .args .words .now) (omega arith)))
 
 pub top-spec : {M : Type 1} → statement M
 top-spec = tie.close (tie.spec returns returns-2)
