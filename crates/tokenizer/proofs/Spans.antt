@@ -137,7 +137,7 @@ unfolding tagOf bytesAt
 nothing-at s from to h = let e : to - from ≡ 0 = omega arith in rw e
 
 -- parts that lie between two places lie between wider ones
-wider :
+pub wider :
     (s : List ℕ) (t : Token) (from′ from to to′ : ℕ)
     → from′ ≤ from
     → to ≤ to′

@@ -1,0 +1,2 @@
+-- What a token of a cue text gives, as the code holds it.
+pub mod Tokens

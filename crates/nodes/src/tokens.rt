@@ -1,0 +1,209 @@
+// The node that a token gives, its strings put into a room, and the kind of node that an end tag leaves.
+use format::settings::Span;
+use strings::put_collapsed;
+use strings::put_decoded;
+use tokenizer::Token;
+use values::bytes::same_bytes;
+use values::times::Stamp;
+ghost use mathlib.Core.Path.{_≡_};
+ghost use Prim.Native.Nat.{_≤_};
+ghost use mathlib.Core.Bool.{cond, _||_};
+ghost use mathlib.Core.List.{[]};
+ghost use lib.Dec.{eqb};
+ghost use lib.ListN.{length};
+ghost use Rattle.format.specs.Bytes.{white, space};
+ghost use Rattle.format.specs.CueText.{collapsed};
+ghost use Rattle.format.specs.Limits.{maxText};
+ghost use Rattle.format.specs.Parts.{bytesAt};
+ghost use Rattle.format.specs.Trees.{kindNamed, tagTime};
+ghost use Rattle.tokenizer.specs.Tags.{tokenIs, PartsIn};
+ghost use Rattle.strings.specs.Stores.{Stores};
+ghost use Rattle.nodes.specs.Tokens.{wordOf, attachedWord, elementMade, stampMade, madeIs, tokenClasses, tokenValue, leftKind};
+
+pub enum Made {
+    None,
+    // A timestamp whose hours are above their limit.
+    Over,
+    // A node of this kind, and a timestamp's milliseconds.
+    Node { kind: u64, time: u64 },
+}
+
+// The kind that a tag's name names; 8 where it names none.
+fn kind_named(name: &[u8]) -> u64
+    ensures { λ r. ⌜ r ≡ wordOf (kindNamed (now (name .entry))) ⌝ }
+{
+    if same_bytes(name, b"c") {
+        return 0;
+    }
+    if same_bytes(name, b"i") {
+        return 1;
+    }
+    if same_bytes(name, b"b") {
+        return 2;
+    }
+    if same_bytes(name, b"u") {
+        return 3;
+    }
+    if same_bytes(name, b"ruby") {
+        return 4;
+    }
+    if same_bytes(name, b"rt") {
+        return 5;
+    }
+    if same_bytes(name, b"v") {
+        return 6;
+    }
+    if same_bytes(name, b"lang") {
+        return 7;
+    }
+    8
+}
+
+// The kind that the part of a text names.
+fn named_at(text: &[u8], from: usize, to: usize) -> u64
+    requires { ⌜ (from ≤ to) × (to ≤ length (now text)) ⌝ }
+    ensures { λ r. ⌜ r ≡ wordOf (kindNamed (bytesAt (now (text .entry)) from to)) ⌝ }
+{
+    kind_named(&text[from..to])
+}
+
+// Ruby text opens only directly inside ruby.
+fn attach(current: u64, named: u64) -> u64
+    ensures { λ r. ⌜ r ≡ attachedWord current named ⌝ }
+{
+    if named != 5 {
+        return named;
+    }
+    if current == 4 {
+        return named;
+    }
+    8
+}
+
+// The node of a start tag.
+fn element(text: &[u8], from: usize, to: usize, current: u64) -> Made
+    requires { ⌜ (from ≤ to) × (to ≤ length (now text)) ⌝ }
+    ensures { λ r. ⌜ r ≡ elementMade (attachedWord current (wordOf (kindNamed (bytesAt (now (text .entry)) from to)))) ⌝ }
+{
+    let kind = attach(current, named_at(text, from, to));
+    if kind == 8 {
+        return Made::None;
+    }
+    Made::Node { kind, time: 0 }
+}
+
+// The node of a timestamp tag: a time and nothing behind it.
+fn stamp(s: &[u8]) -> Made
+    ensures { λ r. ⌜ r ≡ stampMade (tagTime (now (s .entry))) ⌝ }
+{
+    match values::read_time(s) {
+        Stamp::Bad => Made::None,
+        Stamp::Over { next } => {
+            if next < s.len() {
+                Made::None
+            } else {
+                Made::Over
+            }
+        }
+        Stamp::At { ms, next } => {
+            if next < s.len() {
+                Made::None
+            } else {
+                Made::Node { kind: 9, time: ms }
+            }
+        }
+    }
+}
+
+fn stamp_at(text: &[u8], from: usize, to: usize) -> Made
+    requires { ⌜ (from ≤ to) × (to ≤ length (now text)) ⌝ }
+    ensures { λ r. ⌜ r ≡ stampMade (tagTime (bytesAt (now (text .entry)) from to)) ⌝ }
+{
+    stamp(&text[from..to])
+}
+
+// The node that a token gives below a current node of this kind.
+pub fn node_of(text: &[u8], token: Token, current: u64) -> Made
+    requires { ⌜ PartsIn (now text) 0 (length (now text)) token ⌝ }
+    ensures { λ r. ⌜ r ≡ madeIs current (tokenIs (now (text .entry)) token) ⌝ }
+{
+    match token {
+        Token::String(_) => Made::Node { kind: 8, time: 0 },
+        Token::Start {
+            name,
+            classes: _,
+            annotation: _,
+        } => element(text, name.from, name.to, current),
+        Token::End(_) => Made::None,
+        Token::Timestamp(value) => stamp_at(text, value.from, value.to),
+    }
+}
+
+// The classes of a token's node.
+pub fn put_classes(text: &[u8], token: Token, room: &mut [u8], at: usize) -> usize
+    requires { ⌜ (PartsIn (now text) 0 (length (now text)) token) × (length (now text) ≤ maxText) × (at ≤ maxText) ⌝ }
+    ensures { λ r. ⌜ Stores (tokenClasses (tokenIs (now (text .entry)) token)) at (now (room .entry)) r (now (room .exit)) ⌝ }
+{
+    match token {
+        Token::String(_) => at,
+        Token::Start {
+            name: _,
+            classes,
+            annotation: _,
+        } => put_collapsed(text, classes.from, classes.to, true, room, at),
+        Token::End(_) => at,
+        Token::Timestamp(_) => at,
+    }
+}
+
+// Is the annotation of a node of this kind its value.
+fn has_value(kind: u64) -> bool
+    ensures { λ r. ⌜ r ≡ (eqb kind 6 || eqb kind 7) ⌝ }
+{
+    kind == 6 || kind == 7
+}
+
+// The annotation, of a voice or a language alone.
+fn put_annotation(text: &[u8], annotation: Span, kind: u64, room: &mut [u8], at: usize) -> usize
+    requires { ⌜ (annotation .from ≤ annotation .to) × (annotation .to ≤ length (now text)) × (length (now text) ≤ maxText) × (at ≤ maxText) ⌝ }
+    ensures { λ r. ⌜ Stores (cond (eqb kind 6 || eqb kind 7) (collapsed white space (bytesAt (now (text .entry)) (annotation .from) (annotation .to))) []) at (now (room .entry)) r (now (room .exit)) ⌝ }
+{
+    if !has_value(kind) {
+        return at;
+    }
+    put_collapsed(text, annotation.from, annotation.to, false, room, at)
+}
+
+// The value of a token's node, whose kind is this: text, or the annotation of a voice or a language.
+pub fn put_value(text: &[u8], token: Token, kind: u64, room: &mut [u8], at: usize) -> usize
+    requires { ⌜ (PartsIn (now text) 0 (length (now text)) token) × (length (now text) ≤ maxText) × (at ≤ maxText) ⌝ }
+    ensures { λ r. ⌜ Stores (tokenValue kind (tokenIs (now (text .entry)) token)) at (now (room .entry)) r (now (room .exit)) ⌝ }
+{
+    match token {
+        Token::String(p) => put_decoded(text, p.from, p.to, room, at),
+        Token::Start {
+            name: _,
+            classes: _,
+            annotation,
+        } => put_annotation(text, annotation, kind, room, at),
+        Token::End(_) => at,
+        Token::Timestamp(_) => at,
+    }
+}
+
+// The kind of node that a token leaves; 8 where it leaves none.
+pub fn left_kind(text: &[u8], token: Token) -> u64
+    requires { ⌜ PartsIn (now text) 0 (length (now text)) token ⌝ }
+    ensures { λ r. ⌜ r ≡ wordOf (leftKind (tokenIs (now (text .entry)) token)) ⌝ }
+{
+    match token {
+        Token::String(_) => 8,
+        Token::Start {
+            name: _,
+            classes: _,
+            annotation: _,
+        } => 8,
+        Token::End(p) => named_at(text, p.from, p.to),
+        Token::Timestamp(_) => 8,
+    }
+}
