@@ -1,0 +1,2 @@
+// One cue's text read into a flat list of nodes.
+mod measuring;
