@@ -1,3 +1,4 @@
 -- Laws that this crate's proofs cite.
 pub mod TreeLaws
 pub mod RoomLaws
+pub mod FillLaws

@@ -1,2 +1,3 @@
 // One cue's text read into a flat list of nodes.
+mod filling;
 mod measuring;
