@@ -41,7 +41,7 @@ named-element name =
     (either (same name (ascii "v")) _ _ (one (omega arith)) (either (same name (ascii "lang")) _ _ (one (omega arith)) nothing)))))))
 
 -- kinds compared as words
-is-kind : (o : Option Kind) (k : Kind) → kindWord k < 8 → isKind o k ≡ eqb (wordOf o) (kindWord k)
+pub is-kind : (o : Option Kind) (k : Kind) → kindWord k < 8 → isKind o k ≡ eqb (wordOf o) (kindWord k)
 unfolding isKind
 is-kind none k h = sym (ne-eqb 8 (kindWord k) (λ e. absurd (omega arith)))
 is-kind (some j) k h = refl

@@ -1,5 +1,5 @@
 -- The rows of nodes as the second pass reads and stores them: a node is named by a word, 0 for the root and else its index and one.
-use Prim.Native.Nat.{ℕ, _+_, _-_, _≤_}
+use Prim.Native.Nat.{ℕ, _+_, _-_, _≤_, _<_}
 use mathlib.Core.Path.{_≡_}
 use mathlib.Core.Bool.{Bool, cond, _&&_, _||_}
 use mathlib.Core.List.{List, [], _∷_, _++_}
@@ -7,7 +7,10 @@ use lib.Dec.{eqb, ltb}
 use lib.ListN.{length, getD, set}
 use Rattle.format.specs.Rows.{word}
 use Rattle.format.specs.CueText.{Token}
-use Rattle.nodes.specs.Tokens.{tokenClasses, tokenValue}
+use Rattle.format.specs.Limits.{maxText}
+use Rattle.nodes.specs.Tokens.{wordOf, tokenClasses, tokenValue, leftKind}
+use Rattle.nodes.specs.declared.tokens.Made.{Made}
+use Rattle.nodes.specs.declared.tokens.Made.the-variants as Made
 use Rattle.strings.specs.Stores.{stored}
 use Rattle.markup.specs.declared.filling.Filled.{Filled}
 
@@ -46,3 +49,18 @@ pub record Puts (t : Token) (kind time : ℕ) (m : Filled) (room : List ℕ) (ro
       rows′
       ≡ set rows (m .count)
       (rowWords (m .current) kind (m .used) (m .used + length (tokenClasses t)) (m .used + length (tokenClasses t) + length (tokenValue kind t)) time)
+
+-- what a token gives was put: a node, or nothing but another current node
+abbrev pub Turned : Made → Token → Filled → List ℕ → List (List ℕ) → Filled → List ℕ → List (List ℕ) → Type 0
+Turned Made.None t m room rows r room′ rows′ =
+    (r ≡ record { count = m .count; used = m .used; current = leftIn rows (m .current) (wordOf (leftKind t)) })
+    × (room′ ≡ room)
+    × (rows′ ≡ rows)
+Turned Made.Over t m room rows r room′ rows′ = (r ≡ m) × (room′ ≡ room) × (rows′ ≡ rows)
+Turned (Made.Node kind time) t m room rows r room′ rows′ = Puts t kind time m room rows r room′ rows′
+
+-- there is room for what a token gives
+abbrev pub Fits : Made → Token → Filled → List (List ℕ) → Type 0
+Fits Made.None t m rows = Unit
+Fits Made.Over t m rows = Unit
+Fits (Made.Node kind time) t m rows = (m .used + length (tokenClasses t) ≤ maxText) × (m .count < length rows)

@@ -18,8 +18,8 @@ ghost use Rattle.format.specs.Answers.{placed};
 ghost use Rattle.format.specs.CueText.{cueTokens};
 ghost use Rattle.format.specs.Trees.{anyTimeOver, nodes, nodeStrings, nodeRows};
 ghost use Rattle.tokenizer.specs.Tags.{tokenIs, PartsIn};
-ghost use Rattle.nodes.specs.Tokens.{tokenClasses, tokenValue};
-ghost use Rattle.markup.specs.Rows.{upIn, kindIn, leftIn, rowWords, Puts};
+ghost use Rattle.nodes.specs.Tokens.{tokenClasses, madeIs};
+ghost use Rattle.markup.specs.Rows.{upIn, kindIn, leftIn, rowWords, Puts, Turned, Fits};
 
 // How far the table and the room are filled, and the current node: 0 for the root, else its index and one.
 pub struct Filled {
@@ -130,5 +130,43 @@ fn put_node(
         count: count + 1,
         used: to,
         current: entered(filled.current, kind, count + 1),
+    }
+}
+
+// One token.
+fn turn(text: &[u8], token: Token, filled: Filled, room: &mut [u8], rows: &mut [[u64; 7]]) -> Filled
+    requires { ⌜ (PartsIn (now text) 0 (length (now text)) token) × (length (now text) ≤ maxText) × (Fits (madeIs (kindIn (now rows) (filled .current)) (tokenIs (now text) token)) (tokenIs (now text) token) filled (now rows)) ⌝ }
+    ensures { λ r. ⌜ Turned (madeIs (kindIn (now (rows .entry)) (filled .current)) (tokenIs (now (text .entry)) token)) (tokenIs (now (text .entry)) token) filled (now (room .entry)) (now (rows .entry)) r (now (room .exit)) (now (rows .exit)) ⌝ }
+{
+    let made = node_of(text, token, kind_of(rows, filled.current));
+    match made {
+        Made::None => Filled {
+            count: filled.count,
+            used: filled.used,
+            current: leave(rows, filled.current, left_kind(text, token)),
+        },
+        Made::Over => filled,
+        Made::Node { kind, time } => put_node(text, token, kind, time, filled, room, rows),
+    }
+}
+
+// Stores the nodes of a text whose times are within their limit, in a room and a table that are long enough.
+pub fn fill(text: &[u8], room: &mut [u8], rows: &mut [[u64; 7]])
+    requires { ⌜ (length (now text) ≤ maxText) × (anyTimeOver (cueTokens (now text)) ≡ false) × (length (nodeStrings (nodes (now text))) ≤ length (now room)) × (length (nodes (now text)) ≤ length (now rows)) ⌝ }
+    ensures { λ _. ⌜ (now (room .exit) ≡ placed (nodeStrings (nodes (now (text .entry)))) (now (room .entry))) × (now (rows .exit) ≡ placed (nodeRows 0 (nodes (now (text .entry)))) (now (rows .entry))) ⌝ }
+{
+    let mut at = 0;
+    let mut filled = Filled {
+        count: 0,
+        used: 0,
+        current: 0,
+    };
+    loop {
+        let step = tokenizer::step(text, at);
+        let Stepped::Next { token, next } = step else {
+            return;
+        };
+        filled = turn(text, token, filled, room, rows);
+        at = next;
     }
 }
