@@ -2,3 +2,4 @@
 pub mod TreeLaws
 pub mod RoomLaws
 pub mod FillLaws
+pub mod AnswerLaws

@@ -2,3 +2,4 @@
 pub mod Sizes
 pub mod Needs
 pub mod Rows
+pub mod Answering
