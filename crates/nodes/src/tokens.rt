@@ -1,7 +1,7 @@
 // The node that a token gives, its strings put into a room, and the kind of node that an end tag leaves.
 use format::settings::Span;
-use strings::put_collapsed;
-use strings::put_decoded;
+use strings::puts::put_collapsed;
+use strings::puts::put_decoded;
 use tokenizer::Token;
 use values::bytes::same_bytes;
 use values::times::Stamp;
@@ -105,8 +105,8 @@ fn stamp(s: &[u8]) -> Made
                 Made::Over
             }
         }
-        Stamp::At { ms, next } => {
-            if next < s.len() {
+        Stamp::At { ms, next: end } => {
+            if end < s.len() {
                 Made::None
             } else {
                 Made::Node { kind: 9, time: ms }

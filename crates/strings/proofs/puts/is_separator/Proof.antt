@@ -1,8 +1,8 @@
--- `strings::is_separator` meets its contract.
+-- `strings::puts::is_separator` meets its contract.
 use mathlib.Core.Path.{refl}
 use borrow.Author.Needs.{needs}
-use Rattle.strings.proofs.is_separator.Statement.{statement}
-use Rattle.strings.proofs.is_separator.Tie as tie
+use Rattle.strings.proofs.puts.is_separator.Statement.{statement}
+use Rattle.strings.proofs.puts.is_separator.Tie as tie
 
 returns : tie.Need-returns
 returns c = rw (c .if1 .taken) refl

@@ -1,9 +1,9 @@
--- `strings::is_alphanumeric` meets its contract.
+-- `strings::puts::is_alphanumeric` meets its contract.
 use mathlib.Core.Path.{refl, sym, _∙_}
 use Rattle.format.specs.Bytes.{alphanumeric}
 use borrow.Author.Needs.{needs}
-use Rattle.strings.proofs.is_alphanumeric.Statement.{statement}
-use Rattle.strings.proofs.is_alphanumeric.Tie as tie
+use Rattle.strings.proofs.puts.is_alphanumeric.Statement.{statement}
+use Rattle.strings.proofs.puts.is_alphanumeric.Tie as tie
 
 is-digit-requires : tie.Need-is-digit-requires
 is-digit-requires c κs = search needs

@@ -1,4 +1,4 @@
--- `strings::put_part` meets its contract.
+-- `strings::puts::put_part` meets its contract.
 use native.Mathlib.Omega.{arith}
 use Prim.Native.Nat.{_+_, _≤_, _-_}
 use mathlib.Core.Path.{_≡_, sym}
@@ -8,8 +8,8 @@ use lib.Seq.{take-all, take-suc}
 use Rattle.strings.specs.Stores.{Stores}
 use Rattle.strings.proofs.StoreLaws.{stores-none, stores-as, stores-length, _then_}
 use borrow.Author.Needs.{needs}
-use Rattle.strings.proofs.put_part.Statement.{statement}
-use Rattle.strings.proofs.put_part.Tie as tie
+use Rattle.strings.proofs.puts.put_part.Statement.{statement}
+use Rattle.strings.proofs.puts.put_part.Tie as tie
 
 abbrev Inv-loop : tie.InvT-loop
 Inv-loop s room₀ at i₀ n₀ room i n = (i ≤ length s) × (n ≡ at + i) × (Stores (take i s) at room₀ n room)

@@ -1,12 +1,12 @@
--- `strings::put_word` meets its contract.
+-- `strings::puts::put_word` meets its contract.
 use mathlib.Core.Path.{_≡_, refl, sym}
 use mathlib.Core.List.{[], _∷_}
 use Rattle.strings.specs.Stores.{one}
 use Rattle.strings.specs.Turns.{word}
 use Rattle.strings.proofs.StoreLaws.{stores-as, byte-then}
 use borrow.Author.Needs.{needs}
-use Rattle.strings.proofs.put_word.Statement.{statement}
-use Rattle.strings.proofs.put_word.Tie as tie
+use Rattle.strings.proofs.puts.put_word.Statement.{statement}
+use Rattle.strings.proofs.puts.put_word.Tie as tie
 
 separator-requires : tie.Need-separator-requires
 separator-requires c κs = search needs

@@ -1,8 +1,8 @@
--- `strings::put_collapsed` meets its contract.
+-- `strings::puts::put_collapsed` meets its contract.
 use Rattle.format.specs.Parts.{bytesAt}
 use borrow.Author.Needs.{needs}
-use Rattle.strings.proofs.put_collapsed.Statement.{statement}
-use Rattle.strings.proofs.put_collapsed.Tie as tie
+use Rattle.strings.proofs.puts.put_collapsed.Statement.{statement}
+use Rattle.strings.proofs.puts.put_collapsed.Tie as tie
 
 sub-collapse : tie.Need-sub-collapse
 sub-collapse c = search needs

@@ -1,12 +1,12 @@
--- `strings::held_behind` meets its contract.
+-- `strings::puts::held_behind` meets its contract.
 use native.Mathlib.Omega.{arith}
 use mathlib.Core.Path.{refl, sym, _∙_}
 use borrow.Author.Tests.{eq-eqb, ne-eqb, lt-ltb, le-ltb}
 use Rattle.format.specs.Bytes.{ampersand}
 use Rattle.strings.specs.Turns.{heldBehind}
 use borrow.Author.Needs.{needs}
-use Rattle.strings.proofs.held_behind.Statement.{statement}
-use Rattle.strings.proofs.held_behind.Tie as tie
+use Rattle.strings.proofs.puts.held_behind.Statement.{statement}
+use Rattle.strings.proofs.puts.held_behind.Tie as tie
 
 returns : tie.Need-returns
 unfolding heldBehind

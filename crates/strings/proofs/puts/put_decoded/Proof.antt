@@ -1,8 +1,8 @@
--- `strings::put_decoded` meets its contract.
+-- `strings::puts::put_decoded` meets its contract.
 use Rattle.format.specs.Parts.{bytesAt}
 use borrow.Author.Needs.{needs}
-use Rattle.strings.proofs.put_decoded.Statement.{statement}
-use Rattle.strings.proofs.put_decoded.Tie as tie
+use Rattle.strings.proofs.puts.put_decoded.Statement.{statement}
+use Rattle.strings.proofs.puts.put_decoded.Tie as tie
 
 sub-decode : tie.Need-sub-decode
 sub-decode c = search needs

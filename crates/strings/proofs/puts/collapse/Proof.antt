@@ -1,4 +1,4 @@
--- `strings::collapse` meets its contract.
+-- `strings::puts::collapse` meets its contract.
 use native.Mathlib.Omega.{arith}
 use Prim.Native.Nat.{_-_}
 use mathlib.Core.Path.{sym, _∙_}
@@ -7,8 +7,8 @@ use lib.ListN.{length}
 use Rattle.strings.proofs.StoreLaws.{storing-length}
 use Rattle.strings.proofs.TurnLaws.{Collapsing, collapsing-starts, separator-passed, word-put, collapsing-ends}
 use borrow.Author.Needs.{needs}
-use Rattle.strings.proofs.collapse.Statement.{statement}
-use Rattle.strings.proofs.collapse.Tie as tie
+use Rattle.strings.proofs.puts.collapse.Statement.{statement}
+use Rattle.strings.proofs.puts.collapse.Tie as tie
 
 abbrev Inv-loop : tie.InvT-loop
 Inv-loop s stops room₀ at i₀ n₀ gap₀ room i n gap = Collapsing s stops at room₀ room i n gap

@@ -1,10 +1,10 @@
--- `strings::put_escaped` meets its contract.
+-- `strings::puts::put_escaped` meets its contract.
 use mathlib.Core.Path.{sym, _∙_}
 use Rattle.format.specs.CueText.{escaped}
 use Rattle.strings.proofs.StoreLaws.{_then_}
 use borrow.Author.Needs.{needs}
-use Rattle.strings.proofs.put_escaped.Statement.{statement}
-use Rattle.strings.proofs.put_escaped.Tie as tie
+use Rattle.strings.proofs.puts.put_escaped.Statement.{statement}
+use Rattle.strings.proofs.puts.put_escaped.Tie as tie
 
 slice-aggregate-same-bytes : tie.Need-slice-aggregate-same-bytes
 slice-aggregate-same-bytes c = search needs

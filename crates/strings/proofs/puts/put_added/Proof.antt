@@ -1,11 +1,11 @@
--- `strings::put_added` meets its contract.
+-- `strings::puts::put_added` meets its contract.
 use native.Mathlib.Omega.{arith}
 use mathlib.Core.Path.{sym, _∙_}
 use Rattle.strings.proofs.StoreLaws.{stores-none, stores-as, _then_}
 use Rattle.strings.proofs.TextLaws.{added-mark, added-data, added-held, added-escape, added-other}
 use borrow.Author.Needs.{needs}
-use Rattle.strings.proofs.put_added.Statement.{statement}
-use Rattle.strings.proofs.put_added.Tie as tie
+use Rattle.strings.proofs.puts.put_added.Statement.{statement}
+use Rattle.strings.proofs.puts.put_added.Tie as tie
 
 put-part-requires : tie.Need-put-part-requires
 put-part-requires c κs = search needs

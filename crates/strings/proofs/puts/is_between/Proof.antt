@@ -1,7 +1,7 @@
--- `strings::is_between` meets its contract.
+-- `strings::puts::is_between` meets its contract.
 use borrow.Author.Tests.{le-leb, lt-leb}
-use Rattle.strings.proofs.is_between.Statement.{statement}
-use Rattle.strings.proofs.is_between.Tie as tie
+use Rattle.strings.proofs.puts.is_between.Statement.{statement}
+use Rattle.strings.proofs.puts.is_between.Tie as tie
 
 returns : tie.Need-returns
 returns c = simp (le-leb _ _ (c .if1 .taken))

@@ -1,12 +1,12 @@
--- `strings::put` meets its contract.
+-- `strings::puts::put` meets its contract.
 use mathlib.Core.Path.{sym, ap, _∙_}
 use mathlib.Core.Logic.{⊎-elim}
 use lib.ListN.{length, length-set}
 use lib.Seq.{set-out}
 use Rattle.strings.proofs.StoreLaws.{stores-byte}
 use borrow.Author.Needs.{needs}
-use Rattle.strings.proofs.put.Statement.{statement}
-use Rattle.strings.proofs.put.Tie as tie
+use Rattle.strings.proofs.puts.put.Statement.{statement}
+use Rattle.strings.proofs.puts.put.Tie as tie
 
 slice-write-room : tie.Need-slice-write-room
 slice-write-room c = search needs

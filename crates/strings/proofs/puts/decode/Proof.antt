@@ -1,4 +1,4 @@
--- `strings::decode` meets its contract.
+-- `strings::puts::decode` meets its contract.
 use native.Mathlib.Omega.{arith}
 use Prim.Native.Nat.{_-_}
 use mathlib.Core.Path.{_∙_}
@@ -7,8 +7,8 @@ use Rattle.format.specs.Parts.{bytesAt}
 use Rattle.strings.proofs.StoreLaws.{stores-length, storing-length}
 use Rattle.strings.proofs.TextLaws.{part-length}
 use Rattle.strings.proofs.TurnLaws.{Decoding, decoding-starts, decoding-again, decoding-ends}
-use Rattle.strings.proofs.decode.Statement.{statement}
-use Rattle.strings.proofs.decode.Tie as tie
+use Rattle.strings.proofs.puts.decode.Statement.{statement}
+use Rattle.strings.proofs.puts.decode.Tie as tie
 
 abbrev Inv-loop : tie.InvT-loop
 Inv-loop s room₀ at held₀ i₀ n₀ room held i n = Decoding s at room₀ room held i n
