@@ -3,3 +3,5 @@ pub mod TreeLaws
 pub mod RoomLaws
 pub mod FillLaws
 pub mod AnswerLaws
+pub mod MeasureLaws
+pub mod BoundLaws

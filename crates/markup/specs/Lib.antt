@@ -3,3 +3,4 @@ pub mod Sizes
 pub mod Needs
 pub mod Rows
 pub mod Answering
+pub mod Turns

@@ -1,0 +1,1 @@
+-- How deep the open nodes of a cue text go, and what the first pass knows at a place.
