@@ -106,3 +106,69 @@ fn turn(text: &[u8], token: Token, m: Measured, words: &mut [u64]) -> Turned
         }
     }
 }
+
+// The needs of a text, with words enough for the open nodes: each takes three bytes of the text.
+fn measure(text: &[u8], words: &mut [u64]) -> Need
+    requires { ⌜ (length (now text) ≤ maxText) × (length (now text) ≤ 63 * length (now words)) ⌝ }
+    ensures { λ r. ⌜ NeedIs (now (text .entry)) r ⌝ }
+{
+    let mut at: usize = 0;
+    let mut m = Measured {
+        stack: stack::empty(),
+        count: 0,
+        used: 0,
+    };
+    loop {
+        let stepped = tokenizer::step(text, at);
+        let Stepped::Next { token, next } = stepped else {
+            return Need::Sizes {
+                count: m.count,
+                used: m.used,
+            };
+        };
+        let turned = turn(text, token, m, words);
+        let Turned::On(more) = turned else {
+            return Need::Over;
+        };
+        m = more;
+        at = next;
+    }
+}
+
+fn measure_short(text: &[u8]) -> Need
+    requires { ⌜ length (now text) ≤ 12_288 ⌝ }
+    ensures { λ r. ⌜ NeedIs (now (text .entry)) r ⌝ }
+{
+    let mut words = [0u64; 196];
+    measure(text, &mut words)
+}
+
+fn measure_middle(text: &[u8]) -> Need
+    requires { ⌜ length (now text) ≤ 786_432 ⌝ }
+    ensures { λ r. ⌜ NeedIs (now (text .entry)) r ⌝ }
+{
+    let mut words = [0u64; 12_484];
+    measure(text, &mut words)
+}
+
+fn measure_long(text: &[u8]) -> Need
+    requires { ⌜ length (now text) ≤ maxText ⌝ }
+    ensures { λ r. ⌜ NeedIs (now (text .entry)) r ⌝ }
+{
+    let mut words = [0u64; 798_916];
+    measure(text, &mut words)
+}
+
+// What reading a cue text needs. The words for the open nodes are as many as a text of about its length can fill.
+pub fn need_of(text: &[u8]) -> Need
+    requires { ⌜ length (now text) ≤ maxText ⌝ }
+    ensures { λ r. ⌜ NeedIs (now (text .entry)) r ⌝ }
+{
+    if text.len() <= 12_288 {
+        return measure_short(text);
+    }
+    if text.len() <= 786_432 {
+        return measure_middle(text);
+    }
+    measure_long(text)
+}
