@@ -2,7 +2,7 @@
 -- are at most a third as many as the bytes passed.
 use Prim.Native.Nat.{ℕ, _+_, _*_, _-_, _≤_, _<_}
 use mathlib.Core.Path.{_≡_, refl, sym, ap, _∙_}
-use mathlib.Core.Bool.{Bool, true, false, cond, _&&_, _||_}
+use mathlib.Core.Bool.{true, false, _&&_, _||_}
 use mathlib.Core.List.{List, [], _∷_}
 use mathlib.Core.Option.{Option, none, some}
 use native.Mathlib.Omega.{arith}
@@ -11,13 +11,12 @@ use lib.ListN.{length, drop, length-drop, drop-of-length-le}
 use borrow.Author.Tests.{ltb-true, ltb-false}
 use Rattle.format.specs.Limits.{maxText}
 use Rattle.format.specs.Parts.{bytesAt}
-use Rattle.format.specs.Times.{Time, milliseconds, overHours}
+use Rattle.format.specs.Times.{Time, overHours}
 use Rattle.format.specs.CueText.{cueTokensFrom, cueTokens, visitEnd}
-use Rattle.format.specs.CueText as CueText
 use Rattle.format.specs.Texts.{isEmpty, same}
 use Rattle.format.specs.Trees.{kindNamed, tagTime, tokenOver, anyTimeOver, nodes}
 use Rattle.laws.proofs.Tests.{by-test}
-use Rattle.tokenizer.specs.Tags.{spanBytes, tokenIs, PartsIn, StartIn, Marked, TokenAt}
+use Rattle.tokenizer.specs.Tags.{spanBytes, tokenIs, PartsIn, Marked, TokenAt}
 use Rattle.tokenizer.specs.declared.Token.{Token}
 use Rattle.tokenizer.specs.declared.Token.the-variants as Token
 use Rattle.tokenizer.proofs.Spans.{wider}
@@ -34,7 +33,7 @@ use Rattle.markup.specs.declared.measuring.Measured.{Measured}
 use Rattle.markup.proofs.TreeLaws.{root, counted}
 use Rattle.markup.proofs.RoomLaws.{length-bound, count-bound}
 
--- two gifts that differ cannot be one
+-- a token gives nothing, a time above its limit, or a node: never two of them
 none-node : {P : Type 0} {kind time : ℕ} → Made.None ≡ Made.Node kind time → P
 none-node {kind = kind} {time = time} e = let z : _≡_ {A = ℕ} 0 1 = cc in absurd (omega arith)
 
@@ -119,7 +118,7 @@ module _ (s : List ℕ) (at : ℕ) (t : Token) (next : ℕ) (f : TokenAt s at t 
   unfolding kindsBehind
   depth = depth-made (wordOf (leftKind (tokenIs s t))) (madeIs (topOf ks) (tokenIs s t)) refl
 
--- at a place, the open nodes being on this stack in words that were as long as the lent ones
+-- what is known at a place of the text, the open nodes being on the stack in these words, which are as many as were lent
 pub record Reached (s lent : List ℕ) (at : ℕ) (m : Measured) (words : List ℕ) : Type 0 where
   pub inside : at ≤ length s
   pub holds : Holds (m .stack) words

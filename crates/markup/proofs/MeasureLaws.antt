@@ -1,14 +1,13 @@
 -- What a token does to the open nodes and the sums, by what it gives.
-use Prim.Native.Nat.{ℕ, _+_, _≤_, _<_}
+use Prim.Native.Nat.{ℕ, _+_}
 use mathlib.Core.Path.{_≡_, refl, sym, ap, _∙_}
-use mathlib.Core.Bool.{Bool, true, false, cond}
+use mathlib.Core.Bool.{Bool, true, false}
 use mathlib.Core.List.{List, [], _∷_}
 use mathlib.Core.Option.{Option, none, some}
 use native.Mathlib.Omega.{arith}
-use lib.Dec.{eqb, ltb}
+use lib.Dec.{eqb}
 use lib.ListN.{length, drop}
 use borrow.Author.Tests.{eq-eqb, ne-eqb}
-use Rattle.format.specs.Limits.{maxText}
 use Rattle.format.specs.Times.{Time, overHours}
 use Rattle.format.specs.CueText.{stringToken, startTag, endTag, timestampTag}
 use Rattle.format.specs.CueText as CueText

@@ -6,7 +6,6 @@ use mathlib.Core.List.{List, _∷_}
 use lib.Dec.{ltb}
 use lib.ListN.{length}
 use Rattle.format.specs.Limits.{maxText}
-use Rattle.format.specs.CueText as CueText
 use Rattle.format.specs.Trees.{tokenOver}
 use Rattle.tokenizer.specs.Tags.{tokenIs, PartsIn}
 use Rattle.tokenizer.specs.declared.Token.{Token}

@@ -1,12 +1,11 @@
 -- `markup::measuring::measure` meets its contract.
 use Prim.Native.Nat.{ℕ, _-_}
-use mathlib.Core.Path.{_≡_, sym, _∙_}
+use mathlib.Core.Path.{_∙_}
 use mathlib.Core.List.{List}
 use native.Mathlib.Omega.{arith}
 use lib.ListN.{length}
-use Rattle.tokenizer.specs.Tags.{StepAt, TokenAt}
+use Rattle.tokenizer.specs.Tags.{TokenAt}
 use Rattle.tokenizer.specs.declared.Token.{Token}
-use Rattle.markup.specs.Turns.{TurnIs}
 use Rattle.markup.proofs.BoundLaws.{Reached, reached-start, reached-end, reached-over, ready, reached-next}
 use borrow.Author.Needs.{needs}
 use Rattle.markup.proofs.measuring.measure.Statement.{statement}

@@ -1,16 +1,16 @@
--- `markup::measuring::measure_long` meets its contract.
+-- `markup::measuring::measure_long` meets its contract. The words are too many to be written out one by one, so each fact cites their count.
 use Prim.Native.Nat.{ℕ, _*_, _≤_}
 use mathlib.Core.Path.{_≡_, sym}
 use native.Mathlib.Omega.{arith}
 use lib.ListN.{length, replicate, length-replicate}
 use Rattle.format.specs.Limits.{maxText}
-use borrow.Author.Needs.{needs}
 use Rattle.markup.proofs.measuring.measure_long.Statement.{statement}
 use Rattle.markup.proofs.measuring.measure_long.Tie as tie
 
 slice-aggregate-measure : tie.Need-slice-aggregate-measure
 slice-aggregate-measure c = sym (length-replicate {A = ℕ} 798_916 0)
 
+-- words enough for the longest text
 enough : (n m : ℕ) → n ≤ maxText → m ≡ 798_916 → n ≤ 63 * m
 enough n m h e = omega arith
 
