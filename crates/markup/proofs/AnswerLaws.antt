@@ -3,15 +3,18 @@ use Prim.Native.Nat.{ℕ, _≤_, _<_}
 use mathlib.Core.Path.{_≡_, refl, sym, ap, _∙_}
 use mathlib.Core.Bool.{true, false, cond}
 use mathlib.Core.List.{List, [], _∷_}
+use native.Mathlib.Omega.{arith}
 use lib.Dec.{ltb}
 use lib.ListN.{length}
-use borrow.Author.Tests.{lt-ltb, le-ltb}
+use borrow.Author.Tests.{lt-ltb, le-ltb, ltb-true, ltb-false}
 use Rattle.format.specs.Limits.{maxText}
 use Rattle.format.specs.Plain.{firstNotPlain}
 use Rattle.format.specs.CueText.{cueTokens}
 use Rattle.format.specs.Trees.{anyTimeOver, nodes, nodeStrings, nodeRows, treeIs, treeing, treeRoom, treeTable}
 use Rattle.format.specs.Answers.{Answer, accepted, refused, ifAccepted, placed}
+use Rattle.format.specs.Converting.{testing}
 use Rattle.format.specs.declared.Tree.{Tree}
+use Rattle.laws.proofs.Tests.{by-test}
 use Rattle.markup.specs.Needs.{Sized}
 use Rattle.markup.specs.Answering.{sizedAnswer, timedAnswer, Answers}
 
@@ -86,3 +89,26 @@ module _ {s : List ℕ} {r : Tree} {room room′ : List ℕ} {table table′ : L
   pub table-is : table′ ≡ treeTable s (length room) table
   unfolding treeTable
   table-is = a .rows
+
+  pub all-three :
+      (treeIs r ≡ treeing s (length room) (length table))
+      × ((room′ ≡ treeRoom s room (length table)) × (table′ ≡ treeTable s (length room) table))
+  all-three = (a .is, (room-is, table-is))
+
+-- what the test of a text tells
+pub plain-told : (s : List ℕ) → accepted [] ≡ testing s → length s ≤ firstNotPlain s
+unfolding testing
+plain-told s e =
+    by-test (ltb (firstNotPlain s) (length s))
+    (λ y. let f : accepted [] ≡ refused 3 (firstNotPlain s ∷ []) = rw y at e in let z : _≡_ {A = ℕ} 0 1 = cc in absurd (omega arith))
+    (λ n. ltb-false (firstNotPlain s) (length s) n)
+
+pub not-plain-told : (s : List ℕ) (i : ℕ) → refused 3 (i ∷ []) ≡ testing s → (firstNotPlain s < length s) × (i ≡ firstNotPlain s)
+unfolding testing
+not-plain-told s i e =
+    by-test (ltb (firstNotPlain s) (length s))
+    (λ y.
+    let f : refused 3 (i ∷ []) ≡ refused 3 (firstNotPlain s ∷ []) = rw y at e in
+    let same : i ≡ firstNotPlain s = cc in
+    (ltb-true (firstNotPlain s) (length s) y, same))
+    (λ n. let f : refused 3 (i ∷ []) ≡ accepted [] = rw n at e in let z : _≡_ {A = ℕ} 0 1 = cc in absurd (omega arith))

@@ -2,13 +2,16 @@
 mod filling;
 mod measuring;
 
+use format::Plainness;
 use format::Tree;
+use measuring::Need;
 ghost use mathlib.Core.Path.{_≡_};
 ghost use Prim.Native.Nat.{_≤_};
 ghost use lib.ListN.{length};
 ghost use Rattle.format.specs.Limits.{maxText};
+ghost use Rattle.format.specs.Trees.{treeIs, treeing, treeRoom, treeTable};
 ghost use Rattle.markup.specs.Needs.{Sized};
-ghost use Rattle.markup.specs.Answering.{sizedAnswer, Answers};
+ghost use Rattle.markup.specs.Answering.{sizedAnswer, timedAnswer, Answers};
 
 // The checks 2 and 6, and the nodes, of a text that has so many nodes and so many bytes in their strings.
 fn read_sized(
@@ -29,4 +32,30 @@ fn read_sized(
     }
     filling::fill(text, room, nodes);
     Tree::Nodes { count, used }
+}
+
+// Check 5 and those behind it.
+fn read_plain(text: &[u8], room: &mut [u8], nodes: &mut [[u64; 7]]) -> Tree
+    requires { ⌜ length (now text) ≤ maxText ⌝ }
+    ensures { λ r. ⌜ Answers (timedAnswer (now (text .entry)) (length (now (room .entry))) (length (now (nodes .entry)))) (now (text .entry)) r (now (room .entry)) (now (room .exit)) (now (nodes .entry)) (now (nodes .exit)) ⌝ }
+{
+    match measuring::need_of(text) {
+        Need::Over => Tree::OverLimit,
+        Need::Sizes { count, used } => read_sized(text, count, used, room, nodes),
+    }
+}
+
+// Reads one cue's text into nodes: their strings stand in the room one after the other from its start, and their rows in the table.
+pub fn tree(text: &[u8], room: &mut [u8], nodes: &mut [[u64; 7]]) -> Tree
+    ensures answer { λ r. ⌜ treeIs r ≡ treeing (now (text .entry)) (length (now (room .entry))) (length (now (nodes .entry))) ⌝ }
+    ensures room { λ _. ⌜ now (room .exit) ≡ treeRoom (now (text .entry)) (now (room .entry)) (length (now (nodes .entry))) ⌝ }
+    ensures nodes { λ _. ⌜ now (nodes .exit) ≡ treeTable (now (text .entry)) (length (now (room .entry))) (now (nodes .entry)) ⌝ }
+{
+    if format::MAX_TEXT < text.len() {
+        return Tree::TextTooLong;
+    }
+    match plain::first_not_plain(text) {
+        Plainness::Plain => read_plain(text, room, nodes),
+        Plainness::NotPlainAt(i) => Tree::TextNotPlainAt(i),
+    }
 }
