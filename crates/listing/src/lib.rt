@@ -3,7 +3,7 @@ use format::Converted;
 use format::Reading;
 
 mod cue_lines;
-mod output;
+pub mod output;
 mod region_lines;
 mod style_lines;
 

@@ -1,0 +1,9 @@
+// Prints the nodes of the cue text on the standard input, or the refusal.
+use libc::STDIN_FILENO;
+
+fn main() {
+    let mut raw = [0u8; 16384];
+    let mut room = [0u8; 16384];
+    let mut nodes = [[0u64; 7]; 4096];
+    outlining::show_file(STDIN_FILENO, &mut raw, &mut room, &mut nodes);
+}

@@ -1,0 +1,49 @@
+-- `outline_runs::show_arguments` is safe and ends.
+use Prim.Native.Nat.{_-_}
+use mathlib.Core.Path.{_≡_}
+use lib.ListN.{length}
+use borrow.Author.Needs.{needs}
+use Rattle.outline_runs.proofs.show_arguments.Statement.{statement}
+use Rattle.outline_runs.proofs.show_arguments.Tie as tie
+
+abbrev Inv-loop : tie.InvT-loop
+Inv-loop raw₀ room₀ nodes₀ count i₀ raw room nodes i =
+    (length raw ≡ length raw₀)
+    × (length room ≡ length room₀)
+    × (length nodes ≡ length nodes₀)
+
+abbrev μ-loop : tie.MeasureT-loop
+μ-loop raw₀ room₀ nodes₀ count i₀ raw room nodes i = count - i
+
+arg-count-requires : tie.Need-arg-count-requires Inv-loop μ-loop
+arg-count-requires c κs = search needs
+
+loop-holds : tie.Need-loop-holds Inv-loop μ-loop
+loop-holds c = search needs
+
+show-argument-requires : tie.Need-show-argument-requires Inv-loop μ-loop
+show-argument-requires c κs = search needs
+
+add-i : tie.Need-add-i Inv-loop μ-loop
+add-i c = search needs
+
+loop-less : tie.Need-loop-less Inv-loop μ-loop
+loop-less c = search needs
+
+loop-again : tie.Need-loop-again Inv-loop μ-loop
+loop-again c = search needs
+
+same-length : tie.Need-same-length Inv-loop μ-loop
+same-length c = search needs
+
+same-length-2 : tie.Need-same-length-2 Inv-loop μ-loop
+same-length-2 c = search needs
+
+same-length-3 : tie.Need-same-length-3 Inv-loop μ-loop
+same-length-3 c = search needs
+
+returns : tie.Need-returns Inv-loop μ-loop
+returns c = search needs
+
+pub show-arguments-spec : {M : Type 1} → statement M
+show-arguments-spec = tie.close (tie.spec Inv-loop μ-loop arg-count-requires loop-holds show-argument-requires add-i loop-less loop-again same-length same-length-2 same-length-3 returns)
