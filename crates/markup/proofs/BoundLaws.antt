@@ -25,7 +25,7 @@ use Rattle.nodes.specs.Tokens.{wordOf, attachedWord, elementMade, stampMade, ma
 use Rattle.nodes.specs.declared.tokens.Made.{Made}
 use Rattle.nodes.specs.declared.tokens.Made.the-variants as Made
 use Rattle.stack.specs.Kinds.{kinds, topOf, Holds, Emptied}
-use Rattle.stack.specs.declared.Stack.{Stack}
+use Rattle.stack.specs.declared.kinds.Stack.{Stack}
 use Rattle.markup.specs.Sizes.{kindWords, leavingWords, behindMade, kindsBehind, madeCount, madeLength, countFrom, lengthFrom}
 use Rattle.markup.specs.Needs.{Sized}
 use Rattle.markup.specs.Turns.{madeBelow, Ready, Passed}

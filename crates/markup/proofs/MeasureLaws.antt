@@ -19,7 +19,7 @@ use Rattle.nodes.specs.Tokens.{wordOf, attachedWord, elementMade, stampMade, ma
 use Rattle.nodes.specs.declared.tokens.Made.{Made}
 use Rattle.nodes.specs.declared.tokens.Made.the-variants as Made
 use Rattle.stack.specs.Kinds.{kinds, topOf}
-use Rattle.stack.specs.declared.Stack.{Stack}
+use Rattle.stack.specs.declared.kinds.Stack.{Stack}
 use Rattle.markup.specs.Sizes.{leavingWords, behindMade, kindsBehind, madeCount, madeLength}
 use Rattle.markup.specs.Turns.{Left, Entered, madeBelow, Passed}
 use Rattle.markup.specs.declared.measuring.Measured.{Measured}

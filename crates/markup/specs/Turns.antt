@@ -12,7 +12,7 @@ use Rattle.tokenizer.specs.declared.Token.{Token}
 use Rattle.nodes.specs.Tokens.{madeIs}
 use Rattle.nodes.specs.declared.tokens.Made.{Made}
 use Rattle.stack.specs.Kinds.{kinds, topOf, Holds}
-use Rattle.stack.specs.declared.Stack.{Stack}
+use Rattle.stack.specs.declared.kinds.Stack.{Stack}
 use Rattle.markup.specs.Sizes.{leavingWords, kindsBehind, madeCount, madeLength}
 use Rattle.markup.specs.declared.measuring.Measured.{Measured}
 use Rattle.markup.specs.declared.measuring.Turned.{Turned}

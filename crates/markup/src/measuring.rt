@@ -5,7 +5,7 @@ use nodes::tokens::left_kind;
 use nodes::tokens::node_of;
 use nodes::tokens::put_classes;
 use nodes::tokens::put_value;
-use stack::Stack;
+use stack::kinds::Stack;
 use tokenizer::Stepped;
 use tokenizer::Token;
 ghost use mathlib.Core.Path.{_≡_};
@@ -42,9 +42,9 @@ fn leave(path: Stack, named: u64, words: &[u64]) -> Stack
     requires { ⌜ Holds path (now words) ⌝ }
     ensures { λ r. ⌜ Left named path (now (words .entry)) r ⌝ }
 {
-    let top = stack::top(path, words);
+    let top = stack::kinds::top(path, words);
     if named == top {
-        return stack::pop(path, words);
+        return stack::kinds::pop(path, words);
     }
     if named != 4 {
         return path;
@@ -52,8 +52,8 @@ fn leave(path: Stack, named: u64, words: &[u64]) -> Stack
     if top != 5 {
         return path;
     }
-    let below = stack::pop(path, words);
-    stack::pop(below, words)
+    let below = stack::kinds::pop(path, words);
+    stack::kinds::pop(below, words)
 }
 
 // The open nodes behind a node of this kind; those below 8 have children.
@@ -64,7 +64,7 @@ fn enter(path: Stack, kind: u64, words: &mut [u64]) -> Stack
     if 8 <= kind {
         return path;
     }
-    stack::push(path, kind, words)
+    stack::kinds::push(path, kind, words)
 }
 
 // The place behind the strings of a token's node. They are put into a room of one byte, since only the place is asked for.
@@ -85,7 +85,7 @@ fn turn(text: &[u8], token: Token, m: Measured, words: &mut [u64]) -> Turned
     let path = m.stack;
     let count = m.count;
     let used = m.used;
-    let made = node_of(text, token, stack::top(path, words));
+    let made = node_of(text, token, stack::kinds::top(path, words));
     match made {
         Made::None => {
             let named = left_kind(text, token);
@@ -114,7 +114,7 @@ fn measure(text: &[u8], words: &mut [u64]) -> Need
 {
     let mut at: usize = 0;
     let mut m = Measured {
-        stack: stack::empty(),
+        stack: stack::kinds::empty(),
         count: 0,
         used: 0,
     };

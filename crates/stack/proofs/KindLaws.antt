@@ -7,7 +7,7 @@ use native.Mathlib.Nat.{pow-suc}
 use lib.ListN.{length, getD, set, length-append}
 use lib.Seq.{getD-set-other}
 use Rattle.stack.specs.Kinds.{digits, unload, kinds, Holds}
-use Rattle.stack.specs.declared.Stack.{Stack}
+use Rattle.stack.specs.declared.kinds.Stack.{Stack}
 
 pub length-digits : (n w : ℕ) → length (digits n w) ≡ n
 unfolding digits

@@ -5,7 +5,7 @@ use native.Mathlib.Omega.{arith}
 use mathlib.Core.List.{List}
 use lib.ListN.{drop}
 use Rattle.stack.specs.Kinds.{kinds, topOf, Holds, Popped}
-use Rattle.stack.specs.declared.Stack.{Stack}
+use Rattle.stack.specs.declared.kinds.Stack.{Stack}
 use Rattle.markup.specs.Sizes.{leavingWords}
 use Rattle.markup.specs.Turns.{Left}
 use Rattle.markup.proofs.MeasureLaws.{leaves-one, leaves-two, stays-other, stays-below}

@@ -1,10 +1,10 @@
--- `stack::top` meets its contract.
+-- `stack::kinds::top` meets its contract.
 use mathlib.Core.Path.{sym, ap}
 use native.Mathlib.Omega.{arith}
 use Rattle.stack.specs.Kinds.{topOf}
 use Rattle.stack.proofs.KindLaws.{kinds-none, kinds-some}
-use Rattle.stack.proofs.top.Statement.{statement}
-use Rattle.stack.proofs.top.Tie as tie
+use Rattle.stack.proofs.kinds.top.Statement.{statement}
+use Rattle.stack.proofs.kinds.top.Tie as tie
 
 returns : tie.Need-returns
 unfolding topOf

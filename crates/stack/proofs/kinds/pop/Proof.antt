@@ -1,4 +1,4 @@
--- `stack::pop` meets its contract.
+-- `stack::kinds::pop` meets its contract.
 use Prim.Native.Nat.{ℕ, suc, _/_, _-_, _<_}
 use mathlib.Core.Path.{_≡_, refl, sym, ap, _∙_}
 use mathlib.Core.Logic.{⊎-elim}
@@ -7,10 +7,10 @@ use native.Mathlib.Omega.{arith}
 use lib.ListN.{getD, drop}
 use borrow.Author.Needs.{needs}
 use Rattle.stack.specs.Kinds.{digits, unload, kinds, Holds, Popped}
-use Rattle.stack.specs.declared.Stack.{Stack}
+use Rattle.stack.specs.declared.kinds.Stack.{Stack}
 use Rattle.stack.proofs.KindLaws.{kinds-none, kinds-some, pop-small}
-use Rattle.stack.proofs.pop.Statement.{statement}
-use Rattle.stack.proofs.pop.Tie as tie
+use Rattle.stack.proofs.kinds.pop.Statement.{statement}
+use Rattle.stack.proofs.kinds.pop.Tie as tie
 
 module _ (s : Stack) (words : List ℕ) (h : Holds s words) where
   nothing : s .held ≡ 0 → Popped s words s

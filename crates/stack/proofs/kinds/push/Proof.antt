@@ -1,4 +1,4 @@
--- `stack::push` meets its contract.
+-- `stack::kinds::push` meets its contract.
 use Prim.Native.Nat.{ℕ, _+_, _*_, _^_, _≤_, _<_}
 use mathlib.Core.Path.{_≡_, refl}
 use mathlib.Core.List.{List, _++_}
@@ -12,10 +12,10 @@ use borrow.Author.Needs.{needs}
 use borrow.Author.Tests.{eqb-true, eqb-false}
 use Rattle.laws.proofs.Tests.{by-test}
 use Rattle.stack.specs.Kinds.{digits, unload, kinds, Holds, Pushed}
-use Rattle.stack.specs.declared.Stack.{Stack}
+use Rattle.stack.specs.declared.kinds.Stack.{Stack}
 use Rattle.stack.proofs.KindLaws.{length-kinds, digits-push, digits-one, unload-set, push-small}
-use Rattle.stack.proofs.push.Statement.{statement}
-use Rattle.stack.proofs.push.Tie as tie
+use Rattle.stack.proofs.kinds.push.Statement.{statement}
+use Rattle.stack.proofs.kinds.push.Tie as tie
 
 module _ (s : Stack) (words : List ℕ) (kind : ℕ) (h : Holds s words) (k : kind < 8) where
   -- with room in the top word

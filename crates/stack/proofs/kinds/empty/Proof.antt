@@ -1,9 +1,9 @@
--- `stack::empty` meets its contract.
+-- `stack::kinds::empty` meets its contract.
 use mathlib.Core.Path.{refl}
 use native.Mathlib.Omega.{arith}
 use Rattle.stack.specs.Kinds.{digits, unload, kinds}
-use Rattle.stack.proofs.empty.Statement.{statement}
-use Rattle.stack.proofs.empty.Tie as tie
+use Rattle.stack.proofs.kinds.empty.Statement.{statement}
+use Rattle.stack.proofs.kinds.empty.Tie as tie
 
 returns : tie.Need-returns
 unfolding digits unload kinds
