@@ -2,7 +2,7 @@
 -- the escape state of source document 004. A character of several bytes is taken byte by byte: every entry that names a character names one
 -- of ASCII, so a visit of the first byte is the visit of the character.
 use Prim.Native.Nat.{ℕ}
-use mathlib.Core.Bool.{Bool, true, false, not, cond, _||_}
+use mathlib.Core.Bool.{Bool, false, not, cond, _||_}
 use mathlib.Core.List.{List, [], _∷_, _++_}
 use lib.Dec.{eqb}
 use Rattle.format.specs.Bytes.{ascii, tab, lf, formFeed, space, ampersand, fullStop, solidus, semicolon, less, greater, digit, alphanumeric, white}
@@ -153,6 +153,17 @@ visit (inAnnotation result classes buffer) c = annotationState result classes bu
 visit (inEndTag result) c = endTagState result c
 visit (inTimestampTag result) c = timestampTagState result c
 
+-- the same at the end-of-file marker; where a token is only to begin and "position is past the end of input", there is none
+unfoldable pub visitEnd : State → List Token
+visitEnd (inData result) = cond (isEmpty result) [] (dataEnd result ∷ [])
+visitEnd (inEscape result buffer) = escapeEnd result buffer ∷ []
+visitEnd inTag = tagEnd ∷ []
+visitEnd (inStartTag result) = startTagEnd result ∷ []
+visitEnd (inClass result classes buffer) = classEnd result classes buffer ∷ []
+visitEnd (inAnnotation result classes buffer) = annotationEnd result classes buffer ∷ []
+visitEnd (inEndTag result) = endTagEnd result ∷ []
+visitEnd (inTimestampTag result) = timestampTagEnd result ∷ []
+
 -- 2, 3: the state in which each token begins
 abbrev pub begun : State
 begun = inData []
@@ -172,18 +183,7 @@ behindVisit (before t) again = again
 unfoldable pub behindCharacter : State → ℕ → State
 behindCharacter st c = behindVisit (visit st c) (behindVisit (visit begun c) begun)
 
--- the same at the end-of-file marker; "if position is past the end of input" when a token is to begin, there is none
-unfoldable pub visitEnd : State → List Token
-visitEnd (inData result) = cond (isEmpty result) [] (dataEnd result ∷ [])
-visitEnd (inEscape result buffer) = escapeEnd result buffer ∷ []
-visitEnd inTag = tagEnd ∷ []
-visitEnd (inStartTag result) = startTagEnd result ∷ []
-visitEnd (inClass result classes buffer) = classEnd result classes buffer ∷ []
-visitEnd (inAnnotation result classes buffer) = annotationEnd result classes buffer ∷ []
-visitEnd (inEndTag result) = endTagEnd result ∷ []
-visitEnd (inTimestampTag result) = timestampTagEnd result ∷ []
-
--- the tokens of a cue text, one tokenizer after the other
+-- 5, and the rules' own 7 and 8: the tokens of a cue text, one tokenizer after the other
 unfoldable pub cueTokensFrom : State → List ℕ → List Token
 cueTokensFrom st [] = visitEnd st
 cueTokensFrom st (c ∷ s) = returned (visit st c) ++ cueTokensFrom (behindCharacter st c) s

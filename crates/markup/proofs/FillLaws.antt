@@ -1,15 +1,15 @@
 -- The second pass: what is stored token by token is the defined nodes' rows and strings, and the current node's row names its parent.
 use Prim.Native.Nat.{ℕ, zero, suc, _+_, _-_, _≤_, _<_}
 use mathlib.Core.Path.{_≡_, refl, sym, ap, _∙_}
-use mathlib.Core.Bool.{Bool, true, false, cond, not, _&&_, _||_, false≢true}
+use mathlib.Core.Bool.{Bool, true, false, cond, _&&_, _||_, false≢true}
 use mathlib.Core.List.{List, [], _∷_, _++_, append-nil, append-assoc}
 use mathlib.Core.Option.{Option, none, some}
 use native.Mathlib.Numerals.{add-one}
 use native.Mathlib.Omega.{arith}
 use lib.Dec.{eqb, ltb}
-use lib.ListN.{length, getD, take, drop, set, length-append, length-drop, drop-of-length-le}
+use lib.ListN.{length, getD, drop, set, length-append, length-drop, drop-of-length-le}
 use lib.Seq.{drop-cons, set-at, drop-drop, take-append-seam, drop-append-add}
-use borrow.Author.Tests.{eq-eqb, ne-eqb, lt-ltb, le-ltb, ltb-true, ltb-false}
+use borrow.Author.Tests.{eq-eqb, ne-eqb, le-ltb, ltb-true}
 use Rattle.format.specs.Limits.{maxText}
 use Rattle.format.specs.Rows.{word}
 use Rattle.format.specs.Answers.{placed}
@@ -17,7 +17,6 @@ use Rattle.format.specs.Texts.{isEmpty}
 use Rattle.format.specs.CueText.{Token, visitEnd, cueTokensFrom, cueTokens}
 use Rattle.format.specs.Trees.{Kind, ruby, rubyText, Node, kindWord, isKind, Open, parentOf, kindOf, leaving, made, pathBehind, nodesFrom, nodes, tokenOver, anyTimeOver, nodeStrings, placeWords, parentWord, nodeWords, nodeRows}
 use Rattle.laws.proofs.Tests.{by-test, or-first, or-second}
-use Rattle.tokenizer.specs.Tags.{tokenIs, TokenAt}
 use Rattle.strings.specs.Stores.{stored, Stores}
 use Rattle.strings.proofs.StoreLaws.{stored-within, _then_}
 use Rattle.nodes.specs.Tokens.{wordOf, madeIs, tokenClasses, tokenValue, leftKind}

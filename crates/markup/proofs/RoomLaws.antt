@@ -1,7 +1,7 @@
 -- The strings of a cue text's nodes are never longer than the text, and its tokens never more than its bytes.
-use Prim.Native.Nat.{ℕ, zero, suc, _+_, _≤_, _<_}
-use mathlib.Core.Path.{_≡_, refl, sym, ap, _∙_}
-use mathlib.Core.Bool.{Bool, true, false, cond, not, _||_}
+use Prim.Native.Nat.{ℕ, zero, suc, _+_, _≤_}
+use mathlib.Core.Path.{_≡_, ap}
+use mathlib.Core.Bool.{Bool, true, false, _||_}
 use mathlib.Core.List.{List, [], _∷_, _++_}
 use mathlib.Core.Option.{Option, none, some}
 use native.Mathlib.Omega.{arith}
@@ -11,17 +11,16 @@ use borrow.Author.Tests.{eqb-true}
 use Rattle.format.specs.Bytes.{less, solidus, digit, white, space}
 use Rattle.format.specs.Texts.{isEmpty, run, pastRun}
 use Rattle.format.specs.Times.{Time}
-use Rattle.format.specs.CueText.{Token, stringToken, startTag, endTag, timestampTag, collapsed, begun, visitEnd, cueTokensFrom, cueTokens}
+use Rattle.format.specs.CueText.{Token, stringToken, startTag, endTag, timestampTag, visitEnd, cueTokensFrom, cueTokens}
 use Rattle.format.specs.Trees.{Kind, Node, voice, language, isKind, Open, kindOf, attached, classString, tagTime, valueFor, element, stamped, made, pathBehind, nodesFrom, nodes, nodeStrings}
 use Rattle.laws.proofs.Tests.{by-test}
-use Rattle.laws.proofs.Runs.{run-length, pastRun-drop, run-next}
-use Rattle.tokenizer.specs.Decoding.{decoded}
-use Rattle.tokenizer.specs.Tags.{inName, splitStops, classesOf, startOf, tagOf}
+use Rattle.laws.proofs.Runs.{run-length, pastRun-drop}
+use Rattle.tokenizer.specs.Tags.{inName, classesOf, startOf, tagOf}
 use Rattle.tokenizer.proofs.Strings.{notLess, string-token}
 use Rattle.tokenizer.proofs.Tags.{notGreater, tag-token}
 use Rattle.strings.specs.Stores.{such, one}
 use Rattle.strings.proofs.TextLaws.{decoded-length, collapsed-length, class-string}
-use Rattle.nodes.specs.Tokens.{madeIs, tokenClasses, tokenValue, wordOf, leftKind}
+use Rattle.nodes.specs.Tokens.{madeIs, tokenClasses, tokenValue}
 use Rattle.nodes.specs.declared.tokens.Made.{Made}
 use Rattle.nodes.specs.declared.tokens.Made.the-variants as Made
 use Rattle.stack.specs.Kinds.{topOf}

@@ -1,7 +1,7 @@
 -- What a token gives, as the definitions have it and as the code holds it: the same nodes, the same strings, the same open nodes.
-use Prim.Native.Nat.{ℕ, suc, _+_, _-_, _≤_, _<_}
+use Prim.Native.Nat.{ℕ, _+_, _-_, _<_}
 use mathlib.Core.Path.{_≡_, refl, sym, ap, _∙_}
-use mathlib.Core.Bool.{Bool, true, false, cond, not, _&&_, _||_, false≢true}
+use mathlib.Core.Bool.{Bool, true, false, cond, not, _&&_, false≢true}
 use mathlib.Core.List.{List, [], _∷_, _++_, append-nil, append-assoc}
 use mathlib.Core.Option.{Option, none, some}
 use native.Mathlib.Omega.{arith}
@@ -12,7 +12,7 @@ use Rattle.format.specs.Bytes.{ascii}
 use Rattle.format.specs.Texts.{same}
 use Rattle.format.specs.Times.{Time, milliseconds, overHours}
 use Rattle.format.specs.CueText.{Token, stringToken, startTag, endTag, timestampTag}
-use Rattle.format.specs.Trees.{Kind, ruby, rubyText, voice, language, string, timestamp, Node, kindWord, kindNamed, isKind, Open, parentOf, kindOf, attached, leaving, classString, tagTime, valueFor, element, stamped, made, entering, pathBehind, nodesFrom, nodes, timeOver, tokenOver, anyTimeOver, nodeStrings}
+use Rattle.format.specs.Trees.{Kind, ruby, rubyText, string, timestamp, Node, kindWord, kindNamed, isKind, Open, parentOf, kindOf, attached, leaving, tagTime, valueFor, element, stamped, made, entering, pathBehind, nodesFrom, timeOver, tokenOver, anyTimeOver, nodeStrings}
 use Rattle.laws.proofs.Tests.{by-test, or-first, or-second}
 use Rattle.nodes.specs.Tokens.{wordOf, attachedWord, elementMade, stampMade, madeIs, tokenClasses, tokenValue, leftKind}
 use Rattle.nodes.specs.declared.tokens.Made.{Made}

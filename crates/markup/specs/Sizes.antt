@@ -1,12 +1,11 @@
 -- How many nodes tokens give and how long their strings are, told by the kinds of the open nodes alone, as words.
 use Prim.Native.Nat.{ℕ, _+_}
-use mathlib.Core.Path.{_≡_}
-use mathlib.Core.Bool.{true, false, cond, _&&_}
-use mathlib.Core.List.{List, [], _∷_, map}
+use mathlib.Core.Bool.{cond, _&&_}
+use mathlib.Core.List.{List, [], _∷_}
 use lib.Dec.{eqb, ltb}
 use lib.ListN.{length, drop}
-use Rattle.format.specs.CueText.{Token, cueTokens}
-use Rattle.format.specs.Trees.{Open, kindWord, nodes, nodeStrings, anyTimeOver}
+use Rattle.format.specs.CueText.{Token}
+use Rattle.format.specs.Trees.{Open, kindWord}
 use Rattle.nodes.specs.Tokens.{wordOf, madeIs, tokenClasses, tokenValue, leftKind}
 use Rattle.nodes.specs.declared.tokens.Made.{Made}
 use Rattle.nodes.specs.declared.tokens.Made.the-variants as Made

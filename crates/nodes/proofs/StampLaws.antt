@@ -1,15 +1,14 @@
 -- A timestamp tag's time, told by where the time ends: nothing stands behind it.
 use Prim.Native.Nat.{ℕ, zero, suc, _-_, _<_, _≤_}
 use mathlib.Core.Path.{_≡_, refl, sym, ap, _∙_}
-use mathlib.Core.Bool.{Bool, true, false, cond}
+use mathlib.Core.Bool.{cond}
 use mathlib.Core.List.{List, [], _∷_}
 use native.Mathlib.Omega.{arith}
 use lib.Dec.{ltb}
 use lib.ListN.{length}
 use borrow.Author.Tests.{lt-ltb, le-ltb}
-use Rattle.format.specs.Bytes.{digit}
 use Rattle.format.specs.Texts.{isEmpty, run}
-use Rattle.format.specs.Times.{Result, failed, got, Time, milliseconds, overHours, onGot}
+use Rattle.format.specs.Times.{Result, failed, got, Time, overHours, onGot}
 use Rattle.format.specs.Times as Times
 use Rattle.format.specs.Trees.{nothingBehind, tagTime}
 use Rattle.laws.proofs.Tests.{by-test}

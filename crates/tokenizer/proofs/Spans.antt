@@ -1,22 +1,21 @@
 -- Parts of a text by their places, and the tags and strings that they stand for.
 use Prim.Native.Nat.{ℕ, suc, _+_, _-_, _≤_, _<_}
 use mathlib.Core.Path.{_≡_, refl, sym, ap, _∙_}
-use mathlib.Core.Bool.{Bool, true, false, cond, not, false≢true}
+use mathlib.Core.Bool.{true, false, not, false≢true}
 use mathlib.Core.List.{List, [], _∷_}
 use native.Mathlib.Numerals.{add-one}
 use native.Mathlib.Omega.{arith}
 use lib.Dec.{eqb}
-use lib.ListN.{length, getD, take, drop, length-drop}
-use lib.Seq.{take-take, length-take-le, getD-take, drop-cons, take-all}
-use borrow.Author.Tests.{not-true, not-false, eq-eqb, ne-eqb}
-use Rattle.format.specs.Bytes.{fullStop, solidus, less, greater, space, digit, white}
+use lib.ListN.{length, getD, take, drop}
+use lib.Seq.{take-take, length-take-le, getD-take, drop-cons}
+use borrow.Author.Tests.{eq-eqb, ne-eqb}
+use Rattle.format.specs.Bytes.{fullStop, solidus, less, digit}
 use Rattle.format.specs.Texts.{run, pastRun}
 use Rattle.format.specs.Parts.{bytesAt}
-use Rattle.format.specs.CueText.{startTag, blank, collapsed, cueTokens}
+use Rattle.format.specs.CueText.{blank, cueTokens}
 use Rattle.laws.proofs.Tests.{by-test}
 use Rattle.laws.proofs.Runs.{RunAt, run-at, run-first, run-after, run-moves, drop-take}
-use Rattle.tokenizer.specs.Decoding.{decoded}
-use Rattle.tokenizer.specs.Tags.{inName, classesOf, spanBytes, tokenIs, startOf, tagOf, PartsIn, StartAt, TagAt, Marked, TokenAt}
+use Rattle.tokenizer.specs.Tags.{inName, tokenIs, startOf, tagOf, PartsIn, StartAt, TagAt, Marked, TokenAt}
 use Rattle.tokenizer.specs.declared.Token.{Token}
 use Rattle.tokenizer.specs.declared.Token.the-variants as Token
 use Rattle.tokenizer.proofs.Strings.{notLess, string-token}

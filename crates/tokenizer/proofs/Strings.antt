@@ -1,15 +1,15 @@
 -- The data and escape states at once: a text that does not begin with `<` gives one string, up to the next `<`.
-use Prim.Native.Nat.{ℕ, suc, _+_, _<_}
-use mathlib.Core.Path.{_≡_, refl, sym, ap, _∙_}
-use mathlib.Core.Bool.{Bool, true, false, cond, not}
+use Prim.Native.Nat.{ℕ, _+_, _<_}
+use mathlib.Core.Path.{_≡_, refl, _∙_}
+use mathlib.Core.Bool.{Bool, false, not}
 use mathlib.Core.List.{List, [], _∷_, _++_, append-nil, append-assoc}
 use native.Mathlib.Omega.{arith}
 use lib.Dec.{eqb}
 use lib.ListN.{length, length-append}
-use borrow.Author.Tests.{eqb-true, not-true, not-false}
+use borrow.Author.Tests.{eqb-true}
 use Rattle.format.specs.Bytes.{ascii, ampersand, semicolon, less, alphanumeric, digit}
 use Rattle.format.specs.Texts.{same, isEmpty, run, pastRun}
-use Rattle.format.specs.CueText.{Token, stringToken, State, inData, inEscape, inTag, goOn, dataState, escapeState, escaped, visit, visitEnd, returned, behindVisit, behindCharacter, begun, cueTokensFrom, cueTokens}
+use Rattle.format.specs.CueText.{stringToken, State, inData, inEscape, dataState, escapeState, escaped, visit, visitEnd, returned, behindVisit, behindCharacter, cueTokensFrom, cueTokens}
 use Rattle.laws.proofs.Tests.{by-test}
 use Rattle.tokenizer.specs.Decoding.{added, holding, decodedFrom, decoded}
 

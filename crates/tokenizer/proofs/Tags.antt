@@ -1,17 +1,17 @@
 -- The states of a tag at once: what stands behind `<` gives one tag, up to the next `>` or the end, and the tag is a function of the bytes
 -- between.
-use Prim.Native.Nat.{ℕ, suc, _≤_, _<_}
+use Prim.Native.Nat.{ℕ}
 use mathlib.Core.Path.{_≡_, refl, sym, ap, _∙_}
-use mathlib.Core.Bool.{Bool, true, false, cond, not, _&&_, _||_, false≢true}
+use mathlib.Core.Bool.{Bool, true, false, not, false≢true}
 use mathlib.Core.List.{List, [], _∷_, _++_, append-nil, append-assoc}
 use native.Mathlib.Omega.{arith}
 use lib.Dec.{eqb, leb}
-use lib.ListN.{length, drop}
+use lib.ListN.{drop}
 use borrow.Author.Tests.{eqb-true, ne-eqb, leb-true, not-true}
 use Rattle.format.specs.Bytes.{tab, lf, formFeed, space, fullStop, solidus, less, greater, digit, white}
 use Rattle.format.specs.Texts.{all, isEmpty, run, pastRun}
 use Rattle.format.specs.Lines.{onFirst}
-use Rattle.format.specs.CueText.{Token, stringToken, startTag, endTag, timestampTag, State, inData, inEscape, inTag, inStartTag, inClass, inAnnotation, inEndTag, inTimestampTag, Visit, goOn, passing, before, dataEnd, escapeEnd, tagEnd, startTagEnd, classEnd, annotationEnd, endTagEnd, timestampTagEnd, dataState, tagState, startTagState, classState, annotationState, endTagState, timestampTagState, blank, newBuffer, collapsing, collapsedFrom, collapsed, visit, visitEnd, begun, returned, behindVisit, behindCharacter, cueTokensFrom, cueTokens}
+use Rattle.format.specs.CueText.{Token, startTag, State, inData, inEscape, inTag, inStartTag, inClass, inAnnotation, inEndTag, inTimestampTag, Visit, goOn, passing, dataEnd, escapeEnd, tagEnd, startTagEnd, classEnd, annotationEnd, endTagEnd, timestampTagEnd, dataState, tagState, startTagState, classState, annotationState, endTagState, timestampTagState, blank, newBuffer, collapsing, collapsedFrom, collapsed, visit, visitEnd, begun, returned, behindVisit, behindCharacter, cueTokensFrom, cueTokens}
 use Rattle.laws.proofs.Tests.{by-test, and-left, and-right}
 use Rattle.laws.proofs.Runs.{run-all}
 use Rattle.tokenizer.specs.Tags.{inName, atStop, splitStops, classesOf, startOf, tagOf}

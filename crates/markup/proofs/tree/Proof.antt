@@ -1,5 +1,5 @@
 -- `markup::tree` meets its contract.
-use mathlib.Core.Path.{refl, sym, ap, _∙_}
+use mathlib.Core.Path.{refl, sym}
 use lib.ListN.{length}
 use Rattle.format.specs.Converting.{plainnessIs}
 use Rattle.format.specs.Trees.{treeIs}

@@ -2,9 +2,8 @@
 use mathlib.Core.Path.{sym}
 use mathlib.Core.Bool.{true}
 use native.Mathlib.Omega.{arith}
-use lib.ListN.{length, take, drop}
+use lib.ListN.{take}
 use lib.Seq.{length-take-le}
-use Rattle.format.specs.Texts.{run}
 use Rattle.laws.proofs.Runs.{run-at}
 use Rattle.tokenizer.specs.Tags.{inName}
 use Rattle.tokenizer.proofs.Spans.{start-at}

@@ -1,5 +1,4 @@
 -- `tokenizer::step` meets its contract.
-use mathlib.Core.Path.{sym, _∙_}
 use native.Mathlib.Omega.{arith}
 use Prim.Native.Nat.{_+_}
 use lib.ListN.{drop-of-length-le}

@@ -1,6 +1,5 @@
 -- `tokenizer::tag` meets its contract.
 use mathlib.Core.Path.{sym, _∙_}
-use native.Mathlib.Omega.{arith}
 use borrow.Author.Needs.{needs}
 use Rattle.tokenizer.proofs.Spans.{end-at, timestamp-at, other-at, nothing-at}
 use Rattle.tokenizer.proofs.tag.Statement.{statement}

@@ -2,7 +2,7 @@
 use Rattle.tokenizer.specs.Tags.{tokenIs}
 use Rattle.tokenizer.proofs.Spans.{wider}
 use Prim.Native.Nat.{_-_}
-use mathlib.Core.Path.{_≡_, refl, sym, _∙_}
+use mathlib.Core.Path.{_≡_, refl, _∙_}
 use native.Mathlib.Omega.{arith}
 use lib.ListN.{length}
 use borrow.Author.Needs.{needs}
