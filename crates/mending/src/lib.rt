@@ -5,9 +5,13 @@ mod request;
 
 use format::Replacing;
 use request::Asked;
+use values::bytes::Kind;
+use values::bytes::past;
 ghost use mathlib.Core.Path.{_≡_};
-ghost use Rattle.format.specs.Rewriting.{refusalNumber};
-ghost use Rattle.format.specs.Replacing.{replacingIs};
+ghost use lib.ListN.{length};
+ghost use Rattle.format.specs.Bytes.{lf};
+ghost use Rattle.format.specs.Texts.{behindFirst};
+ghost use Rattle.mending.specs.Mended.{toldIs, OutIs, ScratchIs};
 
 // The greatest length in bytes of a request line, without its LF.
 const MAX_LINE: usize = 4_096;
@@ -24,26 +28,29 @@ pub enum Mending {
     BadRequest,
 }
 
-// The number of a refusal to replace; 0 for a file.
-fn refusal_number(answer: Replacing) -> u64
-    ensures { λ r. ⌜ r ≡ refusalNumber (replacingIs answer) ⌝ }
+// What replacing answers, as it is told: the file, or the refusal's number.
+fn told(answer: Replacing) -> Mending
+    ensures { λ r. ⌜ r ≡ toldIs answer ⌝ }
 {
     match answer {
-        Replacing::File(_) => 0,
-        Replacing::RawTooLong => 1,
-        Replacing::ScratchTooShort(_) => 2,
-        Replacing::NoSignature => 4,
-        Replacing::OverLimit => 5,
-        Replacing::NoSuchCue(_) => 7,
-        Replacing::NotWritable { number: _, test: _ } => 8,
-        Replacing::NoGap => 9,
-        Replacing::FileTooLong => 1,
-        Replacing::OutTooShort(_) => 10,
+        Replacing::File(n) => Mending::File(n),
+        Replacing::RawTooLong => Mending::Refused(1),
+        Replacing::ScratchTooShort(_) => Mending::Refused(2),
+        Replacing::NoSignature => Mending::Refused(4),
+        Replacing::OverLimit => Mending::Refused(5),
+        Replacing::NoSuchCue(_) => Mending::Refused(7),
+        Replacing::NotWritable { number: _, test: _ } => Mending::Refused(8),
+        Replacing::NoGap => Mending::Refused(9),
+        Replacing::FileTooLong => Mending::Refused(1),
+        Replacing::OutTooShort(_) => Mending::Refused(10),
     }
 }
 
 // What a request line asks for in a raw file. `longer` says that the file goes on behind what is lent; a bad request is told before that.
-fn mend_line(line: &[u8], raw: &[u8], longer: bool, scratch: &mut [u8], out: &mut [u8]) -> Mending {
+fn mend_line(line: &[u8], raw: &[u8], longer: bool, scratch: &mut [u8], out: &mut [u8]) -> Mending
+    ensures out { λ r. ⌜ OutIs (now (raw .entry)) (length (now (scratch .entry))) (now (out .entry)) r (now (out .exit)) ⌝ }
+    ensures scratch { λ r. ⌜ ScratchIs (now (raw .entry)) longer (now (scratch .entry)) r (now (scratch .exit)) ⌝ }
+{
     // The new cue's parts are pieces of the line, so the line's greatest length holds them.
     let mut text = [0u8; MAX_LINE];
     let asked = request::read(line, &mut text);
@@ -56,24 +63,23 @@ fn mend_line(line: &[u8], raw: &[u8], longer: bool, scratch: &mut [u8], out: &mu
     if MAX_RAW < raw.len() {
         return Mending::Refused(1);
     }
-    let answer = replace::replace_cue(
+    told(replace::replace_cue(
         raw,
         request.number,
         request::row(request),
         &text,
         scratch,
         out,
-    );
-    let Replacing::File(length) = answer else {
-        return Mending::Refused(refusal_number(answer));
-    };
-    Mending::File(length)
+    ))
 }
 
 // What the request line at the input's start asks for in the raw file behind it. The new file goes to `out`, the old file's plain text to
 // `scratch`. `longer` says that the input goes on behind what is lent.
-pub fn mend(input: &[u8], longer: bool, scratch: &mut [u8], out: &mut [u8]) -> Mending {
-    let end = fields::place_of(input, b'\n', 0);
+pub fn mend(input: &[u8], longer: bool, scratch: &mut [u8], out: &mut [u8]) -> Mending
+    ensures out { λ r. ⌜ OutIs (behindFirst lf (now (input .entry))) (length (now (scratch .entry))) (now (out .entry)) r (now (out .exit)) ⌝ }
+    ensures scratch { λ r. ⌜ ScratchIs (behindFirst lf (now (input .entry))) longer (now (scratch .entry)) r (now (scratch .exit)) ⌝ }
+{
+    let end = past(input, 0, Kind::Until(b'\n'));
     if MAX_LINE < end {
         return Mending::BadRequest;
     }

@@ -1,13 +1,16 @@
--- `mending::mend` is safe.
-use mathlib.Core.Path.{sym}
+-- `mending::mend` meets its contract.
+use Prim.Native.Nat.{_+_, _-_}
+use mathlib.Core.Path.{_≡_, sym, _∙_}
 use native.Mathlib.Omega.{arith}
-use lib.Seq.{length-take-le}
+use lib.ListN.{length, take, drop, length-drop}
+use lib.Seq.{length-take-le, take-all}
+use Rattle.mending.proofs.MendLaws.{behind-line}
 use borrow.Author.Needs.{needs}
 use Rattle.mending.proofs.mend.Statement.{statement}
 use Rattle.mending.proofs.mend.Tie as tie
 
-place-of-requires : tie.Need-place-of-requires
-place-of-requires c κs = search needs
+past-requires : tie.Need-past-requires
+past-requires c κs = search needs
 
 returns : tie.Need-returns
 returns c = search needs
@@ -40,13 +43,20 @@ same-length-2 : tie.Need-same-length-2
 same-length-2 c = search needs
 
 returns-3 : tie.Need-returns-3
-returns-3 c = search needs
+returns-3 c =
+    let input = c .before .before .before .before .before .before .before .before .before .before .before .before .before .before .before .args .input .now in
+    let past = c .before .before .before .before .before .before .before .before .before .before .before .past in
+    let done = c .before .before .before .before .mend-line .ensures in
+    let behind = past .result + 1 in
+    let all : take (length input - behind) (drop behind input) ≡ drop behind input =
+    take-all (length input - behind) (drop behind input) (omega (arith, length-drop behind input)) in
+    rw (behind-line input (past .result) (past .ensures) ∙ sym all) (done .0, done .1)
 
 pub mend-spec : {M : Type 1} → statement M
 mend-spec =
     tie.close
     (tie.spec
-    place-of-requires
+    past-requires
     returns
     returns-2
     add-behind

@@ -1,10 +1,14 @@
--- `mending::refusal_number` meets its contract.
+-- `mending::told` meets its contract.
 use mathlib.Core.Path.{refl}
 use Rattle.format.specs.Rewriting.{refusalNumber}
 use Rattle.format.specs.Replacing.{replacingIs}
+use Rattle.mending.specs.Mended.{toldIs}
 use borrow.Author.Needs.{needs}
-use Rattle.mending.proofs.refusal_number.Statement.{statement}
-use Rattle.mending.proofs.refusal_number.Tie as tie
+use Rattle.mending.proofs.told.Statement.{statement}
+use Rattle.mending.proofs.told.Tie as tie
+
+enum-known-answer : tie.Need-enum-known-answer
+enum-known-answer c = search needs
 
 enum-told : tie.Need-enum-told
 enum-told c = search needs
@@ -33,53 +37,51 @@ enum-told-8 c = search needs
 enum-told-9 : tie.Need-enum-told-9
 enum-told-9 c = search needs
 
-enum-told-10 : tie.Need-enum-told-10
-enum-told-10 c = search needs
-
 returns : tie.Need-returns
-unfolding refusalNumber replacingIs
-returns c = rw (c .enum-told .given .1) refl
+unfolding toldIs
+returns c = rw (c .before .answer .given .1) refl
 
 returns-2 : tie.Need-returns-2
-unfolding refusalNumber replacingIs
-returns-2 c = rw (c .enum-told2 .given .1) refl
+unfolding toldIs refusalNumber replacingIs
+returns-2 c = rw (c .enum-told .given .1) refl
 
 returns-3 : tie.Need-returns-3
-unfolding refusalNumber replacingIs
-returns-3 c = rw (c .enum-told3 .given .1) refl
+unfolding toldIs refusalNumber replacingIs
+returns-3 c = rw (c .enum-told2 .given .1) refl
 
 returns-4 : tie.Need-returns-4
-unfolding refusalNumber replacingIs
-returns-4 c = rw (c .enum-told4 .given .1) refl
+unfolding toldIs refusalNumber replacingIs
+returns-4 c = rw (c .enum-told3 .given .1) refl
 
 returns-5 : tie.Need-returns-5
-unfolding refusalNumber replacingIs
-returns-5 c = rw (c .enum-told5 .given .1) refl
+unfolding toldIs refusalNumber replacingIs
+returns-5 c = rw (c .enum-told4 .given .1) refl
 
 returns-6 : tie.Need-returns-6
-unfolding refusalNumber replacingIs
-returns-6 c = rw (c .enum-told6 .given .1) refl
+unfolding toldIs refusalNumber replacingIs
+returns-6 c = rw (c .enum-told5 .given .1) refl
 
 returns-7 : tie.Need-returns-7
-unfolding refusalNumber replacingIs
-returns-7 c = rw (c .enum-told7 .given .1) refl
+unfolding toldIs refusalNumber replacingIs
+returns-7 c = rw (c .enum-told6 .given .1) refl
 
 returns-8 : tie.Need-returns-8
-unfolding refusalNumber replacingIs
-returns-8 c = rw (c .enum-told8 .given .1) refl
+unfolding toldIs refusalNumber replacingIs
+returns-8 c = rw (c .enum-told7 .given .1) refl
 
 returns-9 : tie.Need-returns-9
-unfolding refusalNumber replacingIs
-returns-9 c = rw (c .enum-told9 .given .1) refl
+unfolding toldIs refusalNumber replacingIs
+returns-9 c = rw (c .enum-told8 .given .1) refl
 
 returns-10 : tie.Need-returns-10
-unfolding refusalNumber replacingIs
-returns-10 c = rw (c .enum-told10 .given .1) refl
+unfolding toldIs refusalNumber replacingIs
+returns-10 c = rw (c .enum-told9 .given .1) refl
 
-pub refusal-number-spec : {M : Type 1} → statement M
-refusal-number-spec =
+pub told-spec : {M : Type 1} → statement M
+told-spec =
     tie.close
     (tie.spec
+    enum-known-answer
     enum-told
     enum-told-2
     enum-told-3
@@ -89,7 +91,6 @@ refusal-number-spec =
     enum-told-7
     enum-told-8
     enum-told-9
-    enum-told-10
     returns
     returns-2
     returns-3

@@ -1,0 +1,2 @@
+-- What mending promises.
+pub mod Mended
