@@ -174,7 +174,8 @@ returned (goOn st) = []
 returned (passing t) = t ∷ []
 returned (before t) = t ∷ []
 
--- the state behind a character, given the one to which a tokenizer that begins at this character comes
+-- the state behind a character. Where a visit returns a token before the character, the next token's first visit is to the same character,
+-- and leads to the state `again`; so a character has one visit, or these two
 unfoldable pub behindVisit : Visit → State → State
 behindVisit (goOn st) again = st
 behindVisit (passing t) again = begun
