@@ -1,4 +1,5 @@
--- Answers as chains of tests: what an accepting one says of each test, and what then stands at the start of lent memory.
+-- Answers as chains of tests: what an accepting one says of each test, and what then stands at the start of lent memory; what the test
+-- whether a text is plain tells.
 use Prim.Native.Nat.{ℕ, _≤_}
 use mathlib.Core.Path.{_≡_, refl, sym}
 use mathlib.Core.Bool.{Bool, true, false, cond}
@@ -9,9 +10,11 @@ use lib.ListN.{length, take, drop, length-append}
 use lib.Seq.{take-append-seam}
 use borrow.Author.Tests.{ltb-false}
 use Rattle.format.specs.Limits.{maxFile}
-use Rattle.format.specs.Plain.{plainText}
+use Rattle.format.specs.Plain.{plainText, firstNotPlain}
 use Rattle.format.specs.Answers.{Answer, accepted, refused, ifAccepted, andThen, placed}
-use Rattle.format.specs.Converting.{converting, convertedRoom}
+use Rattle.format.specs.Converting.{converting, convertedRoom, plainnessIs, testing}
+use Rattle.format.specs.declared.Plainness.the-variants as Plainness
+use Rattle.laws.proofs.Tests.{by-test}
 
 -- an answer that accepts was refused by no test, and by no answer before it
 pub behind-test : (t : Bool) (n : ℕ) (us vs : List ℕ) (a : Answer) → cond t (refused n us) a ≡ accepted vs → (t ≡ false) × (a ≡ accepted vs)
@@ -52,3 +55,18 @@ converts raw before {n} {room} a e =
     let h : n ≡ length s = cc (fitting .1) in
     let stands : room ≡ placed s before = rw (← a) at e in
     record { size = ltb-false maxFile (length raw) (within .0); fits = reaches s before room n stands h; text = front s before room n stands h }
+
+-- what the test of a text tells
+pub not-plain : (s : List ℕ) (i : ℕ) → plainnessIs (Plainness.NotPlainAt i) ≡ testing s → (ltb (firstNotPlain s) (length s) ≡ true) × (firstNotPlain s ≡ i)
+unfolding plainnessIs testing
+not-plain s i e =
+    by-test (ltb (firstNotPlain s) (length s))
+    (λ y. let f : refused 3 (i ∷ []) ≡ refused 3 (firstNotPlain s ∷ []) = rw y at e in (y, cc))
+    (λ n. let f : _≡_ {A = Answer} (refused 3 (i ∷ [])) (accepted []) = rw n at e in let z : _≡_ {A = ℕ} 0 1 = cc in absurd (omega arith))
+
+pub all-plain : (s : List ℕ) → plainnessIs Plainness.Plain ≡ testing s → ltb (firstNotPlain s) (length s) ≡ false
+unfolding plainnessIs testing
+all-plain s e =
+    by-test (ltb (firstNotPlain s) (length s))
+    (λ y. let f : _≡_ {A = Answer} (accepted []) (refused 3 (firstNotPlain s ∷ [])) = rw y at e in let z : _≡_ {A = ℕ} 0 1 = cc in absurd (omega arith))
+    (λ n. n)

@@ -123,9 +123,9 @@ fn print_cue(text: &[u8], cues: &[[u64; 17]], number: usize)
     output::number(number as u64);
     print_times(cue);
     output::print(b"\t");
-    output::field(reader::parts::identifier_of(text, cues, number));
+    output::field(parts::identifier_of(text, cues, number));
     output::print(b"\t");
-    output::field(reader::parts::text_of(text, cues, number));
+    output::field(parts::text_of(text, cues, number));
     print_settings(cue);
     output::print(b"\n");
 }

@@ -2,4 +2,3 @@
 pub mod CountLaws
 pub mod ReadLaws
 pub mod FillLaws
-pub mod PartLaws

@@ -14,31 +14,13 @@ use Rattle.format.specs.Limits.{maxText}
 use Rattle.format.specs.Plain.{firstNotPlain}
 use Rattle.format.specs.Blocks.{hasSignature}
 use Rattle.format.specs.Lists.{items, lists, anyOver}
-use Rattle.format.specs.Answers.{Answer, accepted, refused, ifAccepted, placed}
-use Rattle.format.specs.Converting.{plainnessIs, testing}
+use Rattle.format.specs.Answers.{ifAccepted, placed}
 use Rattle.format.specs.Reading.{readingIs, reading, counts, afterReading}
-use Rattle.format.specs.declared.Plainness.{Plainness}
-use Rattle.format.specs.declared.Plainness.the-variants as Plainness
 use Rattle.format.proofs.Reading.{the-type}
 use Rattle.format.specs.declared.Reading.{Reading}
 use Rattle.format.specs.declared.Reading.the-variants as Reading
 use Rattle.laws.proofs.Tests.{by-test, or-first, or-second}
 use Rattle.reader.specs.Counting.{tallyWith, tallyIs, countedIs, Readable, Refused, MeasuredIs}
-
--- what the test of a text tells
-pub not-plain : (s : List ℕ) (i : ℕ) → plainnessIs (Plainness.NotPlainAt i) ≡ testing s → (ltb (firstNotPlain s) (length s) ≡ true) × (firstNotPlain s ≡ i)
-unfolding plainnessIs testing
-not-plain s i e =
-    by-test (ltb (firstNotPlain s) (length s))
-    (λ y. let f : refused 3 (i ∷ []) ≡ refused 3 (firstNotPlain s ∷ []) = rw y at e in (y, cc))
-    (λ n. let f : _≡_ {A = Answer} (refused 3 (i ∷ [])) (accepted []) = rw n at e in let z : _≡_ {A = ℕ} 0 1 = cc in absurd (omega arith))
-
-pub all-plain : (s : List ℕ) → plainnessIs Plainness.Plain ≡ testing s → ltb (firstNotPlain s) (length s) ≡ false
-unfolding plainnessIs testing
-all-plain s e =
-    by-test (ltb (firstNotPlain s) (length s))
-    (λ y. let f : _≡_ {A = Answer} (accepted []) (refused 3 (firstNotPlain s ∷ [])) = rw y at e in let z : _≡_ {A = ℕ} 0 1 = cc in absurd (omega arith))
-    (λ n. n)
 
 module _ (s : List ℕ) where
   pub too-long : ltb maxText (length s) ≡ true → Refused s Reading.TextTooLong

@@ -1,5 +1,4 @@
-// Reading a plain text into lent tables of cues, regions and style texts, and handing back parts of a cue. Any bytes, any numbers and
-// tables of any length are taken.
+// Reading a plain text into lent tables of cues, regions and style texts. Any bytes and tables of any length are taken.
 use format::Reading;
 ghost use mathlib.Core.Path.{_≡_};
 ghost use mathlib.Core.Bool.{_||_};
@@ -11,7 +10,6 @@ ghost use Rattle.format.specs.Reading.{readingIs, reading, afterReading};
 
 mod counting;
 mod filling;
-pub mod parts;
 
 // Is one of three tables shorter than it has to be.
 fn too_short(cues: usize, regions: usize, styles: usize, need: counting::Counts) -> bool

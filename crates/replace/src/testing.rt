@@ -1,6 +1,6 @@
 // The tests of "writable" on the new cue, a row over a text lent with it.
 use super::finding::has_region;
-use reader::parts::part_plain;
+use parts::part_plain;
 use writable::part;
 ghost use mathlib.Core.Path.{_≡_};
 ghost use mathlib.Core.Bool.{false};

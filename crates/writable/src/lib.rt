@@ -6,7 +6,7 @@ use format::regions::Region;
 use format::rows::RegionDecoded;
 use format::rows::RegionIndex;
 use format::settings::Span;
-use reader::parts::part_plain;
+use parts::part_plain;
 ghost use mathlib.Core.Path.{_≡_};
 ghost use mathlib.Core.List.{[], _∷_, map};
 ghost use Rattle.format.specs.Rows.{regionWords, word};
@@ -200,7 +200,7 @@ fn cue_parts_test(text: &[u8], row: [u64; 17]) -> usize
 pub fn cue_fields_test(text: &[u8], row: [u64; 17]) -> usize
     ensures { λ r. ⌜ r ≡ testNumber (firstFailing 1 (cueTest1 (now (text .entry)) row ∷ cueTest2 (now (text .entry)) row ∷ cueTest3 (now (text .entry)) row ∷ cueTest4 row ∷ cueTest5 row ∷ [])) ⌝ }
 {
-    if !reader::parts::test_1(text, row) {
+    if !parts::test_1(text, row) {
         return 1;
     }
     let parts = cue_parts_test(text, row);

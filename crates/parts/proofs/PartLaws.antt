@@ -14,7 +14,7 @@ use Rattle.format.specs.declared.rows.CueEntry.{CueEntry}
 use Rattle.format.specs.declared.rows.CueDecoded.{CueDecoded}
 use Rattle.format.specs.declared.rows.CueDecoded.the-variants as CueDecoded
 use Rattle.laws.proofs.Tests.{by-test, and-left, and-right}
-use Rattle.reader.specs.Parts.{placeOf, handedBack}
+use Rattle.parts.specs.Parts.{placeOf, handedBack}
 
 -- what the decoding of a row tells of its codes
 pub bad-codes : (row : List ℕ) → CueDecoded.Bad ≡ cueOfRow row → cueCodesNamed row ≡ false

@@ -1,4 +1,4 @@
--- `reader::parts::hand_back` meets its contract.
+-- `parts::hand_back` meets its contract.
 use Prim.Native.Nat.{_≤_}
 use mathlib.Core.Path.{_≡_, sym, _∙_}
 use mathlib.Core.Bool.{true}
@@ -6,10 +6,10 @@ use mathlib.Core.List.{[]}
 use lib.ListN.{length, getD}
 use borrow.Author.Tests.{lt-ltb, not-true, not-false}
 use Rattle.format.specs.Parts.{bytesAt, cueTest1}
-use Rattle.reader.proofs.PartLaws.{place-inside, none-such, not-writable, handed}
+use Rattle.parts.proofs.PartLaws.{place-inside, none-such, not-writable, handed}
 use borrow.Author.Needs.{needs}
-use Rattle.reader.proofs.parts.hand_back.Statement.{statement}
-use Rattle.reader.proofs.parts.hand_back.Tie as tie
+use Rattle.parts.proofs.hand_back.Statement.{statement}
+use Rattle.parts.proofs.hand_back.Tie as tie
 
 slice-aggregate-result : tie.Need-slice-aggregate-result
 slice-aggregate-result c = search needs

@@ -1,10 +1,10 @@
--- `reader::parts::part_plain` meets its contract.
+-- `parts::part_plain` meets its contract.
 use borrow.Author.Tests.{lt-leb, le-leb}
 use lib.ListN.{length}
 use Rattle.format.specs.Parts.{bytesAt, partPlain}
 use borrow.Author.Needs.{needs}
-use Rattle.reader.proofs.parts.part_plain.Statement.{statement}
-use Rattle.reader.proofs.parts.part_plain.Tie as tie
+use Rattle.parts.proofs.part_plain.Statement.{statement}
+use Rattle.parts.proofs.part_plain.Tie as tie
 
 returns : tie.Need-returns
 unfolding partPlain bytesAt

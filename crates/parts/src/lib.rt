@@ -1,4 +1,4 @@
-// A cue's identifier and its text, handed back as parts of the text itself.
+// A cue's identifier and its text, handed back as parts of the text itself. Any text, any rows and any number are taken.
 use format::PartAnswer;
 use format::Plainness;
 use format::rows::CueDecoded;
@@ -9,7 +9,7 @@ ghost use lib.Dec.{ltb};
 ghost use lib.ListN.{length};
 ghost use Rattle.format.specs.Rows.{cueCodesNamed};
 ghost use Rattle.format.specs.Plain.{firstNotPlain};
-ghost use Rattle.reader.specs.Parts.{placeOf, handedBack};
+ghost use Rattle.parts.specs.Parts.{placeOf, handedBack};
 ghost use Rattle.format.specs.Parts.{partPlain, cueTest1, partAnswerIs, asking, identifierOf, textOf};
 
 fn is_plain(part: &[u8]) -> bool

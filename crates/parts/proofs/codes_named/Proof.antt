@@ -1,9 +1,9 @@
--- `reader::parts::codes_named` meets its contract.
+-- `parts::codes_named` meets its contract.
 use mathlib.Core.Path.{sym, _∙_}
-use Rattle.reader.proofs.PartLaws.{bad-codes, good-codes}
+use Rattle.parts.proofs.PartLaws.{bad-codes, good-codes}
 use borrow.Author.Needs.{needs}
-use Rattle.reader.proofs.parts.codes_named.Statement.{statement}
-use Rattle.reader.proofs.parts.codes_named.Tie as tie
+use Rattle.parts.proofs.codes_named.Statement.{statement}
+use Rattle.parts.proofs.codes_named.Tie as tie
 
 cue-entry-requires : tie.Need-cue-entry-requires
 cue-entry-requires c κs = search needs

@@ -1,10 +1,10 @@
--- `reader::parts::is_plain` meets its contract.
+-- `parts::is_plain` meets its contract.
 use mathlib.Core.Path.{sym, ap, _∙_}
 use Rattle.format.specs.Converting.{plainnessIs}
-use Rattle.reader.proofs.ReadLaws.{all-plain, not-plain}
+use Rattle.laws.proofs.Answers.{all-plain, not-plain}
 use borrow.Author.Needs.{needs}
-use Rattle.reader.proofs.parts.is_plain.Statement.{statement}
-use Rattle.reader.proofs.parts.is_plain.Tie as tie
+use Rattle.parts.proofs.is_plain.Statement.{statement}
+use Rattle.parts.proofs.is_plain.Tie as tie
 
 first-not-plain-requires : tie.Need-first-not-plain-requires
 first-not-plain-requires c κs = search needs

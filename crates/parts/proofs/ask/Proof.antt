@@ -1,11 +1,11 @@
--- `reader::parts::ask` meets its contract.
+-- `parts::ask` meets its contract.
 use mathlib.Core.Path.{sym, _∙_}
 use borrow.Author.Tests.{lt-ltb, le-ltb}
 use lib.ListN.{length}
 use Rattle.format.specs.Parts.{partAnswerIs, asking}
 use borrow.Author.Needs.{needs}
-use Rattle.reader.proofs.parts.ask.Statement.{statement}
-use Rattle.reader.proofs.parts.ask.Tie as tie
+use Rattle.parts.proofs.ask.Statement.{statement}
+use Rattle.parts.proofs.ask.Tie as tie
 
 returns : tie.Need-returns
 unfolding partAnswerIs asking

@@ -1,10 +1,10 @@
--- `reader::parts::test_1` meets its contract.
+-- `parts::test_1` meets its contract.
 use mathlib.Core.Path.{sym, _∙_}
 use borrow.Author.Tests.{not-true, not-false}
 use Rattle.format.specs.Parts.{cueTest1}
 use borrow.Author.Needs.{needs}
-use Rattle.reader.proofs.parts.test_1.Statement.{statement}
-use Rattle.reader.proofs.parts.test_1.Tie as tie
+use Rattle.parts.proofs.test_1.Statement.{statement}
+use Rattle.parts.proofs.test_1.Tie as tie
 
 array-read-part-plain : tie.Need-array-read-part-plain
 array-read-part-plain c = search needs

@@ -1,7 +1,7 @@
--- `reader::parts::place_of` meets its contract.
+-- `parts::place_of` meets its contract.
 use borrow.Author.Needs.{needs}
-use Rattle.reader.proofs.parts.place_of.Statement.{statement}
-use Rattle.reader.proofs.parts.place_of.Tie as tie
+use Rattle.parts.proofs.place_of.Statement.{statement}
+use Rattle.parts.proofs.place_of.Tie as tie
 
 array-read-t7 : tie.Need-array-read-t7
 array-read-t7 c = search needs
