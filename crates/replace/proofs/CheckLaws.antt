@@ -1,8 +1,8 @@
--- Laws of replacing's checks: the gap before a cue, the new cue's tests in their order, and one check before another.
+-- Laws of replacing's checks: the gap before a cue, what the number of the new cue's test says, and one check before another.
 use Prim.Native.Nat.{ℕ, _+_, _-_, _≤_, _<_}
 use mathlib.Core.Path.{_≡_, refl, sym, ap, _∙_}
 use mathlib.Core.Bool.{Bool, true, false, not, _&&_}
-use mathlib.Core.List.{List, [], _∷_, _++_}
+use mathlib.Core.List.{List, [], _∷_}
 use mathlib.Core.Option.{Option, none, some}
 use native.Mathlib.Omega.{arith}
 use lib.Dec.{eqb}
@@ -12,16 +12,15 @@ use Rattle.format.specs.Limits.{maxFile, maxText}
 use Rattle.format.specs.Texts.{isEmpty}
 use Rattle.format.specs.Plain.{plainText, Plain}
 use Rattle.format.specs.Lines.{split}
-use Rattle.format.specs.Rows.{word, cueCodesNamed}
+use Rattle.format.specs.Rows.{word}
 use Rattle.format.specs.Blocks.{hasSignature}
 use Rattle.format.specs.Lists.{items, lists, anyOver}
-use Rattle.format.specs.Parts.{bytesAt, partPlain, cueTest1}
+use Rattle.format.specs.Parts.{bytesAt}
 use Rattle.format.specs.Answers.{ifAccepted, fileAnswer}
-use Rattle.format.specs.Writable.{firstFailing, lineFits, positionFits, cueTest2, cueTest3, cueTest4, cueTest5}
+use Rattle.format.specs.Writable.{cueTest2, cueTest3, cueTest4, cueTest5}
 use Rattle.format.specs.Replacing.{emptyLine, rawLines, rawStart, rawEnd, newTest1, newTest6, newCueFails, regionNames, newFile, noGap, lineBefore, replacingIs, unlessTest, replacingText, replacing, Replaced}
 use Rattle.format.specs.declared.Replacing.{Replacing}
 use Rattle.format.specs.declared.Replacing.the-variants as Replacing
-use Rattle.laws.proofs.Tests.{and-true}
 use Rattle.laws.proofs.Newlines.{newlines-keeps}
 use Rattle.laws.proofs.Plainness.{plain-absent}
 use Rattle.laws.proofs.PlainText.{plainText-length, plainText-plain}
@@ -29,9 +28,9 @@ use Rattle.replaced.proofs.RawLines.{split-rawLines}
 use Rattle.replaced.proofs.CueBlocks.{cue-block-at}
 use Rattle.replaced.proofs.Files.{replaced}
 use Rattle.writable.specs.Faults.{testNumber}
-use Rattle.writable.proofs.FaultLaws.{fails-front, fails-behind, none-fails, number-is}
-use Rattle.replace.specs.Places.{lineEnds, OwnLines}
-use Rattle.replace.specs.NewCue.{cueRow, gapAnswer, testedAnswer, countedAnswer, Outcome, Readable}
+use Rattle.writable.proofs.FaultLaws.{none-fails, number-is}
+use Rattle.places.specs.Places.{lineEnds, OwnLines}
+use Rattle.replace.specs.NewCue.{gapAnswer, testedAnswer, countedAnswer, Outcome, Readable}
 
 by-length : (a : ℕ) (x : List ℕ) → eqb a (a + length x) ≡ isEmpty x
 unfolding isEmpty
@@ -46,38 +45,6 @@ gap-is s n p =
     let line : getD (split s) n [] ≡ getD (rawLines s) n (emptyLine []) .bytes =
     ap (λ ls. getD ls n []) same ∙ List·getD-map (λ l. l .bytes) (rawLines s) n (emptyLine []) in
     rw line (by-length (rawStart s n) (getD (rawLines s) n (emptyLine []) .bytes))
-
--- the tests of the new cue but its region's are those of its words, where the name is plain
-abbrev pub fields : List ℕ → List ℕ → List Bool
-fields t w = cueTest1 t w ∷ cueTest2 t w ∷ cueTest3 t w ∷ cueTest4 w ∷ cueTest5 w ∷ []
-
-pub fields-are :
-    (t w : List ℕ) (names : List (List ℕ))
-    → partPlain t (word 16 w) (word 17 w) ≡ true
-    → newCueFails t w names ≡ firstFailing 1 (fields t (cueRow w) ++ newTest6 t w names ∷ [])
-unfolding newCueFails newTest1 cueTest1 cueCodesNamed cueTest2 cueTest3 cueTest4 cueTest5 lineFits positionFits
-fields-are t w names e = rw (e, and-true) refl
-
-module _
-    (t w words : List ℕ) (names : List (List ℕ))
-    (plain : partPlain t (word 16 w) (word 17 w) ≡ true)
-    (are : words ≡ cueRow w)
-    {r : ℕ}
-    (e : r ≡ testNumber (firstFailing 1 (fields t words)))
-  where
-    first-field : r ≡ testNumber (firstFailing 1 (fields t (cueRow w)))
-    first-field = e ∙ ap (λ x. testNumber (firstFailing 1 (fields t x))) are
-
-    pub fields-fail : (r ≡ 0 → ⊥) → r ≡ testNumber (newCueFails t w names)
-    fields-fail h =
-        first-field
-        ∙ fails-front 1 (fields t (cueRow w)) (newTest6 t w names ∷ []) (λ z. h (first-field ∙ z))
-        ∙ ap testNumber (sym (fields-are t w names plain))
-
-    pub name-decides : r ≡ 0 → newCueFails t w names ≡ firstFailing 6 (newTest6 t w names ∷ [])
-    name-decides z =
-        fields-are t w names plain
-        ∙ fails-behind 1 (fields t (cueRow w)) (newTest6 t w names ∷ []) (omega arith) (sym first-field ∙ z)
 
 -- a readable text is within the limit of a text
 pub within-text : (raw s : List ℕ) → Readable raw s → length s ≤ maxText

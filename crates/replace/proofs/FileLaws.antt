@@ -28,8 +28,9 @@ use Rattle.laws.proofs.Tests.{by-test}
 use Rattle.roundtrip.proofs.Shape.{none-fails}
 use Rattle.replaced.proofs.Asked.{names-are, asked-name}
 use Rattle.forms.specs.Forms.{asked, namedRegion, settingsForm, timingForm, cueForm}
-use Rattle.replace.specs.NewCue.{cueRow, lentForm, inPlace, Outcome}
-use Rattle.replace.specs.Places.{lineEnds, OwnLines}
+use Rattle.places.specs.Places.{lineEnds, OwnLines}
+use Rattle.places.specs.NewCue.{cueRow}
+use Rattle.replace.specs.NewCue.{lentForm, inPlace, Outcome}
 
 pub front-part : (s : List ℕ) (n : ℕ) → bytesAt s 0 n ≡ take n s
 unfolding bytesAt

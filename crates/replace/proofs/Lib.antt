@@ -1,6 +1,3 @@
 -- Laws that this crate's proofs cite.
-pub mod PlaceLaws
-pub mod FindLaws
 pub mod FileLaws
-pub mod CountLaws
 pub mod CheckLaws

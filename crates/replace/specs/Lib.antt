@@ -1,4 +1,2 @@
 -- What the contracts of this crate's own functions say beyond `format`.
-pub mod Places
 pub mod NewCue
-pub mod Counting

@@ -1,4 +1,4 @@
--- The new cue's row as a cue's row, and the new file as the code puts it together.
+-- The new file as the code puts it together, and what replacing answers check by check.
 use Prim.Native.Nat.{ℕ, _≤_}
 use mathlib.Core.Path.{_≡_}
 use mathlib.Core.Bool.{true, false, cond, not}
@@ -10,35 +10,13 @@ use Rattle.format.specs.Texts.{isEmpty}
 use Rattle.format.specs.Plain.{plainText}
 use Rattle.format.specs.Blocks.{hasSignature}
 use Rattle.format.specs.Lists.{items, lists, anyOver}
-use Rattle.format.specs.Rows.{word}
 use Rattle.format.specs.Answers.{Answer, refused, ifAccepted, fileAnswer, placed}
 use Rattle.format.specs.Replacing.{nameLent, newCueFails, regionNames, newFile, noGap, replacingIs, unlessTest}
 use Rattle.format.specs.declared.Replacing.{Replacing}
 use Rattle.forms.specs.Forms.{asked, cueForm}
+use Rattle.places.specs.NewCue.{cueRow}
 
--- the words of a new cue's row that mean what they mean in a cue's row, with no region
-abbrev pub cueRow : List ℕ → List ℕ
-cueRow w =
-    word 0 w
-    ∷ word 1 w
-    ∷ word 2 w
-    ∷ word 3 w
-    ∷ word 4 w
-    ∷ word 5 w
-    ∷ word 6 w
-    ∷ word 7 w
-    ∷ word 8 w
-    ∷ word 9 w
-    ∷ word 10 w
-    ∷ word 11 w
-    ∷ word 12 w
-    ∷ word 13 w
-    ∷ word 14 w
-    ∷ word 15 w
-    ∷ 0
-    ∷ []
-
--- its written form
+-- the written form of the new cue
 unfoldable pub lentForm : List ℕ → List ℕ → List ℕ
 lentForm t w = cueForm t (cueRow w) (asked (not (isEmpty (nameLent t w))) (nameLent t w))
 

@@ -1,15 +1,14 @@
 // Replacing one cue of a raw file: the cue's own bytes are changed and nothing else. Any bytes and any numbers are taken, and nothing is
 // asked of the caller.
-mod counting;
-mod finding;
-mod places;
-mod testing;
-
-use counting::Counted;
 use format::Converted;
 use format::Replacing;
 use format::settings::Span;
 use output::bytes;
+use places::counting;
+use places::counting::Counted;
+use places::finding;
+use places::lines;
+use places::testing;
 use writable::part;
 ghost use Prim.Native.Nat.{ℕ, _-_, _≤_, _<_};
 ghost use mathlib.Core.Path.{_≡_};
@@ -27,8 +26,8 @@ ghost use Rattle.format.specs.Converting.{convertedRoom};
 ghost use Rattle.format.specs.Replacing.{newCueFails, regionNames, newFile, replacingIs, replacingText, replacing, replacedRoom, Replaced};
 ghost use Rattle.format.specs.declared.Replacing.the-variants as Answer;
 ghost use Rattle.output.specs.Puts.{Puts};
+ghost use Rattle.places.specs.Places.{lineEnds, OwnLines};
 ghost use Rattle.replace.specs.NewCue.{inPlace, gapAnswer, testedAnswer, countedAnswer, Outcome, Readable};
-ghost use Rattle.replace.specs.Places.{lineEnds, OwnLines};
 
 // The file with the new cue's written form in place of the bytes from one place up to another.
 fn put_file(
@@ -61,8 +60,8 @@ fn replace_own(
     requires { ⌜ (Readable (now raw) (now s)) × (OwnLines (now s) number (own .from) (own .to)) × (newCueFails (now text) row (regionNames (now s)) ≡ none) ⌝ }
     ensures { λ r. ⌜ Outcome (newFile (now (raw .entry)) number (now (text .entry)) row) (now (out .entry)) (fileAnswer (newFile (now (raw .entry)) number (now (text .entry)) row) (length (now (out .entry)))) r (now (out .exit)) ⌝ }
 {
-    let start = places::raw_start(raw, places::lines_before(s, own.from));
-    let end = places::raw_end(raw, places::lines_before(s, own.to));
+    let start = lines::raw_start(raw, lines::lines_before(s, own.from));
+    let end = lines::raw_end(raw, lines::lines_before(s, own.to));
     let mut nothing = [0u8; 1];
     let need = put_file(raw, start, end, text, row, &mut nothing);
     if format::MAX_FILE < need {
@@ -79,8 +78,8 @@ fn gap_before(s: &[u8], place: usize) -> bool
     requires { ⌜ (Plain (now s)) × (0 < lineEnds (take place (now s))) ⌝ }
     ensures { λ r. ⌜ r ≡ isEmpty (getD (split (now (s .entry))) (lineEnds (take place (now (s .entry))) - 1) []) ⌝ }
 {
-    let before = places::lines_before(s, place) - 1;
-    places::raw_start(s, before) == places::raw_end(s, before)
+    let before = lines::lines_before(s, place) - 1;
+    lines::raw_start(s, before) == lines::raw_end(s, before)
 }
 
 // Does an identifier lack the empty line that it needs before the line that has this place.

@@ -3,7 +3,7 @@ use mathlib.Core.Path.{_≡_}
 use mathlib.Core.Bool.{true}
 use Rattle.format.specs.Blocks.{hasSignature}
 use Rattle.format.specs.Lists.{items, anyOver}
-use Rattle.replace.specs.Counting.{Counts}
+use Rattle.places.specs.Counting.{Counts}
 use Rattle.replace.proofs.CheckLaws.{plain-text, text-size, no-signature, over-limit, file-passed}
 use borrow.Author.Needs.{needs}
 use Rattle.replace.proofs.replace_in.Statement.{statement}
