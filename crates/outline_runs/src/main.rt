@@ -14,7 +14,7 @@ fn show_named(name: &[u8], raw: &mut [u8], room: &mut [u8], nodes: &mut [[u64; 7
         os::fail(name);
         return;
     }
-    outlining::show_file(file, raw, room, nodes);
+    listing::nodes::show_file(file, raw, room, nodes);
     libc::close(file);
 }
 

@@ -1,10 +1,10 @@
--- `outlining::refusal_number` meets its contract.
+-- `listing::nodes::refusal_number` meets its contract.
 use mathlib.Core.Path.{refl}
 use Rattle.format.specs.Rewriting.{refusalNumber}
 use Rattle.format.specs.Trees.{treeIs}
 use borrow.Author.Needs.{needs}
-use Rattle.outlining.proofs.refusal_number.Statement.{statement}
-use Rattle.outlining.proofs.refusal_number.Tie as tie
+use Rattle.listing.proofs.nodes.refusal_number.Statement.{statement}
+use Rattle.listing.proofs.nodes.refusal_number.Tie as tie
 
 enum-told : tie.Need-enum-told
 enum-told c = search needs

@@ -1,6 +1,5 @@
 // Prints on standard output the nodes of a cue text, a line each, or the refusal.
-mod node_lines;
-
+use super::node_lines;
 use format::Tree;
 ghost use mathlib.Core.Path.{_≡_};
 ghost use Rattle.format.specs.Rewriting.{refusalNumber};
@@ -24,7 +23,7 @@ fn refusal_number(answer: Tree) -> u64
 pub fn show(text: &[u8], room: &mut [u8], nodes: &mut [[u64; 7]]) {
     let answer = markup::tree(text, room, nodes);
     let Tree::Nodes { count, used: _ } = answer else {
-        listing::refuse(refusal_number(answer));
+        super::refuse(refusal_number(answer));
         return;
     };
     node_lines::print_all(room, nodes, count);
@@ -33,9 +32,7 @@ pub fn show(text: &[u8], room: &mut [u8], nodes: &mut [[u64; 7]]) {
 // The lines of an open file, read into `raw` and taken as it is. More input than `raw` holds is refusal 1.
 pub fn show_file(file: i32, raw: &mut [u8], room: &mut [u8], nodes: &mut [[u64; 7]]) {
     let n = io::read_full(file, raw);
-    let mut more = [0u8; 1];
-    if 0 < io::read_full(file, &mut more) {
-        listing::refuse(1);
+    if super::refuse_more(file) {
         return;
     }
     show(&raw[..n], room, nodes);

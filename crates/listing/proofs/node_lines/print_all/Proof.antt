@@ -1,8 +1,8 @@
--- `outlining::node_lines::print_all` is safe and ends.
+-- `listing::node_lines::print_all` is safe and ends.
 use Prim.Native.Nat.{_≤_, _-_}
 use borrow.Author.Needs.{needs}
-use Rattle.outlining.proofs.node_lines.print_all.Statement.{statement}
-use Rattle.outlining.proofs.node_lines.print_all.Tie as tie
+use Rattle.listing.proofs.node_lines.print_all.Statement.{statement}
+use Rattle.listing.proofs.node_lines.print_all.Tie as tie
 
 abbrev Inv-loop : tie.InvT-loop
 Inv-loop room nodes count end i₀ i = i ≤ end
