@@ -5,7 +5,7 @@ ghost use lib.ListN.{length};
 
 // Auto, or a number with its sign: a line's where the line snaps to lines, else a percentage. Code 1 has no sign, so its word is empty.
 fn print_line(code: u64, millionths: u64, snap: u64) {
-    output::word(b"auto  - ", code);
+    output::choice(b"auto,,-,", code);
     if code == 0 {
         return;
     }
@@ -24,13 +24,13 @@ fn print_position(code: u64, millionths: u64) {
 }
 
 fn print_settings(row: [u64; 17]) {
-    output::word(b"horizontal rl lr ", row[6]);
+    output::choice(b"horizontal,rl,lr,", row[6]);
     print_line(row[7], row[8], row[9]);
-    output::word(b"start center end ", row[10]);
+    output::choice(b"start,center,end,", row[10]);
     print_position(row[11], row[12]);
-    output::word(b"auto line-left center line-right ", row[13]);
+    output::choice(b"auto,line-left,center,line-right,", row[13]);
     output::percentage(row[14]);
-    output::word(b"start center end left right ", row[15]);
+    output::choice(b"start,center,end,left,right,", row[15]);
     output::index(row[16], b"\tnone");
 }
 

@@ -5,7 +5,7 @@ use format::Reading;
 mod cue_lines;
 mod node_lines;
 pub mod nodes;
-mod output;
+pub mod output;
 mod region_lines;
 mod style_lines;
 

@@ -14,8 +14,8 @@ fn print_value(room: &[u8], row: [u64; 7]) {
 
 fn print_row(room: &[u8], number: usize, row: [u64; 7]) {
     output::digits(number as u64);
-    output::word(
-        b"class italic bold underline ruby ruby-text voice language string timestamp ",
+    output::choice(
+        b"class,italic,bold,underline,ruby,ruby-text,voice,language,string,timestamp,",
         row[1],
     );
     output::index(row[0], b"\t-");

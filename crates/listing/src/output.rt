@@ -1,4 +1,4 @@
-// Fields of a line, printed on standard output. Every field but a line's first begins with the tab before it.
+// Bytes, numbers and words printed on standard output, and the fields of a line, each with the tab before it.
 use libc::STDOUT_FILENO;
 
 // The millionths of one.
@@ -8,17 +8,17 @@ pub fn print(bytes: &[u8]) {
     io::write_all(STDOUT_FILENO, bytes);
 }
 
-// A number, with no tab before it.
 pub fn digits(n: u64) {
     io::print_decimal(STDOUT_FILENO, n);
 }
 
+// A number, as a field.
 pub fn number(n: u64) {
     print(b"\t");
     digits(n);
 }
 
-// The shortest decimal of a number of millionths, with no tab before it.
+// The shortest decimal of a number of millionths.
 pub fn decimal(millionths: u64) {
     digits(millionths / ONE);
     let mut rest = millionths % ONE;
@@ -36,6 +36,7 @@ pub fn decimal(millionths: u64) {
     }
 }
 
+// A percentage, as a field.
 pub fn percentage(millionths: u64) {
     print(b"\t");
     decimal(millionths);
@@ -52,7 +53,7 @@ fn letter_of(b: u8) -> u8 {
     }
 }
 
-// The bytes with backslash, tab and LF as two characters each, so that a field is within its line.
+// The bytes as a field: backslash, tab and LF are two characters each, so that it is within its line.
 pub fn field(bytes: &[u8]) {
     print(b"\t");
     let mut start = 0;
@@ -76,14 +77,13 @@ pub fn part(text: &[u8], from: u64, to: u64) {
     field(&text[start..end]);
 }
 
-// The word of this number in a list, in which each word ends with a space; an empty field where there is none.
+// The word of this number in a list, in which each word ends with a comma; nothing where there is none.
 pub fn word(words: &[u8], number: u64) {
-    print(b"\t");
     let mut left = number;
     let mut start = 0;
     let mut i = 0;
     while i < words.len() {
-        if words[i] == b' ' {
+        if words[i] == b',' {
             if left == 0 {
                 print(&words[start..i]);
                 return;
@@ -95,7 +95,13 @@ pub fn word(words: &[u8], number: u64) {
     }
 }
 
-// The index of which a row holds one more; `none` where the row holds 0.
+// The word of a list that a code names, as a field, which is empty where the code names none.
+pub fn choice(words: &[u8], code: u64) {
+    print(b"\t");
+    word(words, code);
+}
+
+// The index of which a row holds one more, as a field; the field `none` where the row holds 0.
 pub fn index(held: u64, none: &[u8]) {
     if held == 0 {
         print(none);

@@ -13,7 +13,7 @@ fn print_row(text: &[u8], number: usize, row: [u64; 9]) {
     output::percentage(row[5]);
     output::percentage(row[6]);
     output::percentage(row[7]);
-    output::word(b"none up ", row[8]);
+    output::choice(b"none,up,", row[8]);
     output::print(b"\n");
 }
 

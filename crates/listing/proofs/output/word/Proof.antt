@@ -13,12 +13,6 @@ Inv-loop words number left₀ start₀ i₀ left start i = (start ≤ i) × (i �
 abbrev μ-loop : tie.MeasureT-loop
 μ-loop words number left₀ start₀ i₀ left start i = length words - i
 
-slice-aggregate-print : tie.Need-slice-aggregate-print Inv-loop μ-loop
-slice-aggregate-print c = search needs
-
-print-requires : tie.Need-print-requires Inv-loop μ-loop
-print-requires c κs = search needs
-
 loop-holds : tie.Need-loop-holds Inv-loop μ-loop
 loop-holds c = search needs
 
@@ -34,8 +28,8 @@ part-print-start c = search needs
 part-print-end : tie.Need-part-print-end Inv-loop μ-loop
 part-print-end c = search needs
 
-print-requires-2 : tie.Need-print-requires-2 Inv-loop μ-loop
-print-requires-2 c κs = search needs
+print-requires : tie.Need-print-requires Inv-loop μ-loop
+print-requires c κs = search needs
 
 returns : tie.Need-returns Inv-loop μ-loop
 returns c = search needs
@@ -64,14 +58,12 @@ word-spec =
     (tie.spec
     Inv-loop
     μ-loop
-    slice-aggregate-print
-    print-requires
     loop-holds
     shared-slice-read-if1
     sub-print
     part-print-start
     part-print-end
-    print-requires-2
+    print-requires
     returns
     sub-left
     add-start
