@@ -1,9 +1,9 @@
--- `plain_vectors::run_line` is safe and ends.
+-- `vectors::plain_lines::run` is safe and ends.
 use mathlib.Core.Path.{sym}
 use lib.Seq.{length-take-le}
 use borrow.Author.Needs.{needs}
-use Rattle.plain_vectors.proofs.run_line.Statement.{statement}
-use Rattle.plain_vectors.proofs.run_line.Tie as tie
+use Rattle.vectors.proofs.plain_lines.run.Statement.{statement}
+use Rattle.vectors.proofs.plain_lines.run.Tie as tie
 
 slice-aggregate-decode : tie.Need-slice-aggregate-decode
 slice-aggregate-decode c = search needs
@@ -25,8 +25,8 @@ report-requires c κs = search needs
 returns : tie.Need-returns
 returns c = search needs
 
-pub run-line-spec : {M : Type 1} → statement M
-run-line-spec =
+pub run-spec : {M : Type 1} → statement M
+run-spec =
     tie.close
     (tie.spec
     slice-aggregate-decode

@@ -1,17 +1,17 @@
--- `timing_vectors::run` is safe and ends.
+-- `vectors::run` is safe and ends.
 use Prim.Native.Nat.{_≤_, _-_}
 use mathlib.Core.Logic.{⊎-elim}
 use native.Mathlib.Omega.{arith}
 use lib.ListN.{length}
 use borrow.Author.Needs.{needs}
-use Rattle.timing_vectors.proofs.run.Statement.{statement}
-use Rattle.timing_vectors.proofs.run.Tie as tie
+use Rattle.vectors.proofs.run.Statement.{statement}
+use Rattle.vectors.proofs.run.Tie as tie
 
 abbrev Inv-loop : tie.InvT-loop
-Inv-loop input start₀ i₀ start i = (start ≤ i) × (i ≤ length input)
+Inv-loop kind input start₀ i₀ start i = (start ≤ i) × (i ≤ length input)
 
 abbrev μ-loop : tie.MeasureT-loop
-μ-loop input start₀ i₀ start i = length input - i
+μ-loop kind input start₀ i₀ start i = length input - i
 
 loop-holds : tie.Need-loop-holds Inv-loop μ-loop
 loop-holds c = search needs

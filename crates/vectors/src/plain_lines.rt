@@ -1,8 +1,8 @@
-// Converts each line of hexadecimal bytes of the standard input, and prints the bytes, the plain text, and the first place of the bytes
-// that is not plain, parted by tabs.
+// A line of hexadecimal bytes: the bytes are converted, and printed with the plain text and with the first place of the bytes that is not
+// plain, parted by tabs.
 use format::Converted;
 use format::Plainness;
-use libc::STDOUT_FILENO;
+use listing::output;
 ghost use Prim.Native.Nat.{_≤_, _<_};
 ghost use lib.ListN.{length};
 
@@ -63,18 +63,17 @@ fn print_hex(bytes: &[u8]) {
     while i < bytes.len() {
         let b = bytes[i];
         let pair = [hex_digit(b / 16), hex_digit(b % 16)];
-        io::write_all(STDOUT_FILENO, &pair);
+        output::print(&pair);
         i += 1;
     }
 }
 
 fn print_place(raw: &[u8]) {
     match plain::first_not_plain(raw) {
-        Plainness::Plain => {
-            io::write_all(STDOUT_FILENO, b"plain");
-        }
+        Plainness::Plain => output::print(b"\tplain\n"),
         Plainness::NotPlainAt(at) => {
-            io::print_decimal(STDOUT_FILENO, at as u64);
+            output::number(at as u64);
+            output::print(b"\n");
         }
     }
 }
@@ -87,44 +86,20 @@ fn print_text(raw: &[u8]) {
                 print_hex(&room[..n]);
             }
         }
-        Converted::TooLong => {
-            io::write_all(STDOUT_FILENO, b"refused 1");
-        }
-        Converted::RoomTooShort(_) => {
-            io::write_all(STDOUT_FILENO, b"refused 2");
-        }
+        Converted::TooLong => output::print(b"refused 1"),
+        Converted::RoomTooShort(_) => output::print(b"refused 2"),
     }
 }
 
 fn report(raw: &[u8]) {
     print_hex(raw);
-    io::write_all(STDOUT_FILENO, b"\t");
+    output::print(b"\t");
     print_text(raw);
-    io::write_all(STDOUT_FILENO, b"\t");
     print_place(raw);
-    io::write_all(STDOUT_FILENO, b"\n");
 }
 
-fn run_line(line: &[u8]) {
+pub fn run(line: &[u8]) {
     let mut raw = [0u8; 64];
     let n = decode(line, &mut raw);
     report(&raw[..n]);
-}
-
-fn run(input: &[u8]) {
-    let mut start = 0;
-    let mut i = 0;
-    while i < input.len() {
-        if input[i] == b'\n' {
-            run_line(&input[start..i]);
-            start = i + 1;
-        }
-        i += 1;
-    }
-}
-
-fn main() {
-    let mut input = [0u8; 65536];
-    let n = io::read_full(0, &mut input);
-    run(&input[..n]);
 }

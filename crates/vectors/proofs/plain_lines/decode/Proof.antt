@@ -1,11 +1,11 @@
--- `plain_vectors::decode` meets its contract.
+-- `vectors::plain_lines::decode` meets its contract.
 use Prim.Native.Nat.{_≤_, _-_}
 use mathlib.Core.Path.{_≡_}
 use native.Mathlib.Omega.{arith}
 use lib.ListN.{length, length-set}
 use borrow.Author.Needs.{needs}
-use Rattle.plain_vectors.proofs.decode.Statement.{statement}
-use Rattle.plain_vectors.proofs.decode.Tie as tie
+use Rattle.vectors.proofs.plain_lines.decode.Statement.{statement}
+use Rattle.vectors.proofs.plain_lines.decode.Tie as tie
 
 abbrev Inv-loop : tie.InvT-loop
 Inv-loop line raw₀ n₀ raw n = (n ≤ length raw) × (length raw ≡ length raw₀)

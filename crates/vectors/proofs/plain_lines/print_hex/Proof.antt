@@ -1,10 +1,10 @@
--- `plain_vectors::print_hex` is safe and ends.
+-- `vectors::plain_lines::print_hex` is safe and ends.
 use Prim.Native.Nat.{_≤_, _-_}
 use native.Mathlib.Omega.{arith}
 use lib.ListN.{length}
 use borrow.Author.Needs.{needs}
-use Rattle.plain_vectors.proofs.print_hex.Statement.{statement}
-use Rattle.plain_vectors.proofs.print_hex.Tie as tie
+use Rattle.vectors.proofs.plain_lines.print_hex.Statement.{statement}
+use Rattle.vectors.proofs.plain_lines.print_hex.Tie as tie
 
 abbrev Inv-loop : tie.InvT-loop
 Inv-loop bytes i₀ i = i ≤ length bytes
@@ -24,11 +24,11 @@ hex-digit-requires c κs = omega (arith, c .shared-slice-known2 .given (c .befor
 hex-digit-requires-2 : tie.Need-hex-digit-requires-2 Inv-loop μ-loop
 hex-digit-requires-2 c κs = search needs
 
-slice-aggregate-write-all : tie.Need-slice-aggregate-write-all Inv-loop μ-loop
-slice-aggregate-write-all c = search needs
+slice-aggregate-print : tie.Need-slice-aggregate-print Inv-loop μ-loop
+slice-aggregate-print c = search needs
 
-write-all-requires : tie.Need-write-all-requires Inv-loop μ-loop
-write-all-requires c κs = search needs
+print-requires : tie.Need-print-requires Inv-loop μ-loop
+print-requires c κs = search needs
 
 add-i : tie.Need-add-i Inv-loop μ-loop
 add-i c = search needs
@@ -52,8 +52,8 @@ print-hex-spec =
     shared-slice-read-b
     hex-digit-requires
     hex-digit-requires-2
-    slice-aggregate-write-all
-    write-all-requires
+    slice-aggregate-print
+    print-requires
     add-i
     loop-less
     loop-again
