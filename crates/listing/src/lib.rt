@@ -3,15 +3,27 @@ use format::Converted;
 use format::Reading;
 
 mod cue_lines;
+mod node_lines;
+pub mod nodes;
 pub mod output;
 mod region_lines;
 mod style_lines;
 
 // The line of a refusal.
 pub fn refuse(number: u64) {
-    output::print(b"refused\t");
+    output::print(b"refused");
     output::number(number);
     output::print(b"\n");
+}
+
+// Is there more in an open file than was read of it. Then it is refused by 1.
+pub fn refuse_more(file: i32) -> bool {
+    let mut more = [0u8; 1];
+    if io::read_full(file, &mut more) == 0 {
+        return false;
+    }
+    refuse(1);
+    true
 }
 
 // The line of a refusal to read; nothing for lists.
@@ -81,9 +93,7 @@ pub fn show_file(
     styles: &mut [[u64; 2]],
 ) {
     let n = io::read_full(file, raw);
-    let mut more = [0u8; 1];
-    if 0 < io::read_full(file, &mut more) {
-        refuse(1);
+    if refuse_more(file) {
         return;
     }
     show(&raw[..n], text, cues, regions, styles);

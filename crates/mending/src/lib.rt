@@ -1,10 +1,6 @@
 // One cue of a raw file replaced by what a request line asks for. The line stands before the file, in one input.
-mod fields;
-pub mod files;
-mod request;
-
 use format::Replacing;
-use request::Asked;
+use requests::Asked;
 use values::bytes::Kind;
 use values::bytes::past;
 ghost use mathlib.Core.Path.{_≡_};
@@ -53,7 +49,7 @@ fn mend_line(line: &[u8], raw: &[u8], longer: bool, scratch: &mut [u8], out: &mu
 {
     // The new cue's parts are pieces of the line, so the line's greatest length holds them.
     let mut text = [0u8; MAX_LINE];
-    let asked = request::read(line, &mut text);
+    let asked = requests::read(line, &mut text);
     let Asked::Cue(request) = asked else {
         return Mending::BadRequest;
     };
@@ -66,7 +62,7 @@ fn mend_line(line: &[u8], raw: &[u8], longer: bool, scratch: &mut [u8], out: &mu
     told(replace::replace_cue(
         raw,
         request.number,
-        request::row(request),
+        requests::row(request),
         &text,
         scratch,
         out,

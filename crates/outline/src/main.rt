@@ -5,5 +5,5 @@ fn main() {
     let mut raw = [0u8; 16384];
     let mut room = [0u8; 16384];
     let mut nodes = [[0u64; 7]; 4096];
-    outlining::show_file(STDIN_FILENO, &mut raw, &mut room, &mut nodes);
+    listing::nodes::show_file(STDIN_FILENO, &mut raw, &mut room, &mut nodes);
 }

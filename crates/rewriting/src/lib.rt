@@ -1,6 +1,4 @@
 // Rewriting a raw file in the one written form: it is converted, read and written again, or refused by the first of these that refuses.
-pub mod files;
-
 use format::Converted;
 use format::Reading;
 use format::Rewriting;

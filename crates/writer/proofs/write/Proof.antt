@@ -23,6 +23,10 @@ returns c =
 enum-told : tie.Need-enum-told
 enum-told c = search needs
 
+-- the tests that all rows passed before the file was measured
+abbrev told-of : tie.After-put-file → tie.After-enum-told
+told-of put = put .before .before
+
 slice-aggregate-put-file : tie.Need-slice-aggregate-put-file
 slice-aggregate-put-file c = search needs
 
@@ -33,7 +37,7 @@ returns-2 : tie.Need-returns-2
 unfolding writingIs
 returns-2 c =
     let put = c .before .before in
-    let told = put .before .before in
+    let told = told-of put in
     let checked = told .before .before in
     let args = checked .before .before .before .args in
     too-long (args .text .now) (args .styles .now) (args .regions .now) (args .cues .now) (args .out .now)
@@ -43,7 +47,7 @@ returns-3 : tie.Need-returns-3
 unfolding writingIs
 returns-3 c =
     let put = c .before .before .before in
-    let told = put .before .before in
+    let told = told-of put in
     let checked = told .before .before in
     let args = checked .before .before .before .args in
     too-short (args .text .now) (args .styles .now) (args .regions .now) (args .cues .now) (args .out .now)
@@ -61,7 +65,7 @@ returns-4 c =
     let again = c .before .before in
     let fit = again .before .before in
     let put = fit .before .before .before in
-    let told = put .before .before in
+    let told = told-of put in
     let checked = told .before .before in
     let args = checked .before .before .before .args in
     fits (args .text .now) (args .styles .now) (args .regions .now) (args .cues .now) (args .out .now)

@@ -1,0 +1,52 @@
+-- `listing::nodes::refusal_number` meets its contract.
+use mathlib.Core.Path.{refl}
+use Rattle.format.specs.Rewriting.{refusalNumber}
+use Rattle.format.specs.Trees.{treeIs}
+use borrow.Author.Needs.{needs}
+use Rattle.listing.proofs.nodes.refusal_number.Statement.{statement}
+use Rattle.listing.proofs.nodes.refusal_number.Tie as tie
+
+enum-told : tie.Need-enum-told
+enum-told c = search needs
+
+enum-told-2 : tie.Need-enum-told-2
+enum-told-2 c = search needs
+
+enum-told-3 : tie.Need-enum-told-3
+enum-told-3 c = search needs
+
+enum-told-4 : tie.Need-enum-told-4
+enum-told-4 c = search needs
+
+enum-told-5 : tie.Need-enum-told-5
+enum-told-5 c = search needs
+
+enum-told-6 : tie.Need-enum-told-6
+enum-told-6 c = search needs
+
+returns : tie.Need-returns
+unfolding refusalNumber treeIs
+returns c = rw (c .enum-told .given .1) refl
+
+returns-2 : tie.Need-returns-2
+unfolding refusalNumber treeIs
+returns-2 c = rw (c .enum-told2 .given .1) refl
+
+returns-3 : tie.Need-returns-3
+unfolding refusalNumber treeIs
+returns-3 c = rw (c .enum-told3 .given .1) refl
+
+returns-4 : tie.Need-returns-4
+unfolding refusalNumber treeIs
+returns-4 c = rw (c .enum-told4 .given .1) refl
+
+returns-5 : tie.Need-returns-5
+unfolding refusalNumber treeIs
+returns-5 c = rw (c .enum-told5 .given .1) refl
+
+returns-6 : tie.Need-returns-6
+unfolding refusalNumber treeIs
+returns-6 c = rw (c .enum-told6 .given .1) refl
+
+pub refusal-number-spec : {M : Type 1} → statement M
+refusal-number-spec = tie.close (tie.spec enum-told enum-told-2 enum-told-3 enum-told-4 enum-told-5 enum-told-6 returns returns-2 returns-3 returns-4 returns-5 returns-6)

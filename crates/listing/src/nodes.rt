@@ -1,0 +1,39 @@
+// Prints on standard output the nodes of a cue text, a line each, or the refusal.
+use super::node_lines;
+use format::Tree;
+ghost use mathlib.Core.Path.{_≡_};
+ghost use Rattle.format.specs.Rewriting.{refusalNumber};
+ghost use Rattle.format.specs.Trees.{treeIs};
+
+// The number of a refusal to read; 0 for nodes.
+fn refusal_number(answer: Tree) -> u64
+    ensures { λ r. ⌜ r ≡ refusalNumber (treeIs answer) ⌝ }
+{
+    match answer {
+        Tree::Nodes { count: _, used: _ } => 0,
+        Tree::TextTooLong => 1,
+        Tree::TextNotPlainAt(_) => 3,
+        Tree::OverLimit => 5,
+        Tree::RoomTooShort(_) => 2,
+        Tree::TableTooShort(_) => 6,
+    }
+}
+
+// The lines of a cue text. The strings of its nodes go to `room`, and their rows to the table.
+pub fn show(text: &[u8], room: &mut [u8], nodes: &mut [[u64; 7]]) {
+    let answer = markup::tree(text, room, nodes);
+    let Tree::Nodes { count, used: _ } = answer else {
+        super::refuse(refusal_number(answer));
+        return;
+    };
+    node_lines::print_all(room, nodes, count);
+}
+
+// The lines of an open file, read into `raw` and taken as it is. More input than `raw` holds is refusal 1.
+pub fn show_file(file: i32, raw: &mut [u8], room: &mut [u8], nodes: &mut [[u64; 7]]) {
+    let n = io::read_full(file, raw);
+    if super::refuse_more(file) {
+        return;
+    }
+    show(&raw[..n], room, nodes);
+}

@@ -1,0 +1,105 @@
+// A line of hexadecimal bytes: the bytes are converted, and printed with the plain text and with the first place of the bytes that is not
+// plain, parted by tabs.
+use format::Converted;
+use format::Plainness;
+use listing::output;
+ghost use Prim.Native.Nat.{_≤_, _<_};
+ghost use lib.ListN.{length};
+
+// The value of a hexadecimal digit; 16 where it is none.
+fn digit(c: u8) -> u8
+    ensures { λ r. ⌜ r ≤ 16 ⌝ }
+{
+    if c < b'0' {
+        return 16;
+    }
+    if c <= b'9' {
+        return c - b'0';
+    }
+    if c < b'A' {
+        return 16;
+    }
+    if c <= b'F' {
+        return c - b'A' + 10;
+    }
+    16
+}
+
+// Reads pairs of digits into `raw`, and gives their number. It ends at the first byte that is no digit.
+fn decode(line: &[u8], raw: &mut [u8]) -> usize
+    ensures { λ r. ⌜ r ≤ length (now (raw .exit)) ⌝ }
+{
+    let mut n: usize = 0;
+    while n < raw.len() {
+        if line.len() / 2 <= n {
+            return n;
+        }
+        let i = 2 * n;
+        let high = digit(line[i]);
+        let low = digit(line[i + 1]);
+        if 15 < high {
+            return n;
+        }
+        if 15 < low {
+            return n;
+        }
+        raw[n] = high * 16 + low;
+        n += 1;
+    }
+    n
+}
+
+fn hex_digit(n: u8) -> u8
+    requires { ⌜ n < 16 ⌝ }
+{
+    if n < 10 {
+        return b'0' + n;
+    }
+    b'A' + (n - 10)
+}
+
+fn print_hex(bytes: &[u8]) {
+    let mut i = 0;
+    while i < bytes.len() {
+        let b = bytes[i];
+        let pair = [hex_digit(b / 16), hex_digit(b % 16)];
+        output::print(&pair);
+        i += 1;
+    }
+}
+
+fn print_place(raw: &[u8]) {
+    match plain::first_not_plain(raw) {
+        Plainness::Plain => output::print(b"\tplain\n"),
+        Plainness::NotPlainAt(at) => {
+            output::number(at as u64);
+            output::print(b"\n");
+        }
+    }
+}
+
+fn print_text(raw: &[u8]) {
+    let mut room = [0u8; 192];
+    match plain::convert(raw, &mut room) {
+        Converted::Text(n) => {
+            if n <= room.len() {
+                print_hex(&room[..n]);
+            }
+        }
+        Converted::TooLong => output::print(b"refused 1"),
+        Converted::RoomTooShort(_) => output::print(b"refused 2"),
+    }
+}
+
+fn report(raw: &[u8]) {
+    print_hex(raw);
+    output::print(b"\t");
+    print_text(raw);
+    print_place(raw);
+}
+
+pub fn run(line: &[u8]) {
+    let mut raw = [0u8; 64];
+    let n = decode(line, &mut raw);
+    report(&raw[..n]);
+}

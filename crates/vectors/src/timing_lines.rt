@@ -1,0 +1,208 @@
+// A line read by its first letter, and printed with what was read: T a timestamp, P a percentage, N a line number, C a count of lines,
+// S cue settings, R region settings, L a timing line. Numbers are in milliseconds and millionths.
+use format::regions::Region;
+use format::rows::CueEntry;
+use format::rows::RegionIndex;
+use format::settings::Settings;
+use format::settings::Span;
+use listing::output;
+use timing::timing_line::Timing;
+use timing::timing_line::TimingLine;
+use values::numbers::LineCount;
+use values::numbers::LineNumber;
+use values::numbers::Percentage;
+use values::times::Stamp;
+
+// Codes of what was found in a text: no number, one above its limit, a number from 0 on, one below 0.
+const FAILS: u64 = 0;
+
+const OVER: u64 = 1;
+
+const FOUND: u64 = 2;
+
+const BELOW: u64 = 3;
+
+fn print_found(code: u64, n: u64) {
+    output::word(b"fails,over,,-,", code);
+    if FOUND <= code {
+        output::digits(n);
+    }
+}
+
+fn print_time(text: &[u8]) {
+    match values::read_time(text) {
+        Stamp::Bad => print_found(FAILS, 0),
+        Stamp::Over { next: _ } => print_found(OVER, 0),
+        Stamp::At { ms, next: _ } => print_found(FOUND, ms),
+    }
+}
+
+fn print_percentage(text: &[u8]) {
+    match values::numbers::read_percentage(text) {
+        Percentage::Bad => print_found(FAILS, 0),
+        Percentage::Good(n) => print_found(FOUND, n),
+    }
+}
+
+fn print_line_number(text: &[u8]) {
+    match values::numbers::read_line_number(text) {
+        LineNumber::Bad => print_found(FAILS, 0),
+        LineNumber::Over => print_found(OVER, 0),
+        LineNumber::Good {
+            negative,
+            millionths,
+        } => {
+            if negative {
+                print_found(BELOW, millionths);
+            } else {
+                print_found(FOUND, millionths);
+            }
+        }
+    }
+}
+
+fn print_line_count(text: &[u8]) {
+    match values::numbers::read_line_count(text) {
+        LineCount::Bad => print_found(FAILS, 0),
+        LineCount::Over => print_found(OVER, 0),
+        LineCount::Good(n) => print_found(FOUND, n),
+    }
+}
+
+fn print_labelled(label: &[u8], n: u64) {
+    output::print(label);
+    output::digits(n);
+}
+
+fn print_part(text: &[u8], part: Span) {
+    let from = part.from;
+    let to = part.to;
+    if from <= to {
+        if to <= text.len() {
+            output::print(&text[from..to]);
+        }
+    }
+}
+
+// A choice whose first word carries no number.
+fn print_choice(words: &[u8], code: u64, n: u64) {
+    output::word(words, code);
+    if 0 < code {
+        output::digits(n);
+    }
+}
+
+// The choices of a cue's row.
+fn print_cue_row(row: [u64; 17]) {
+    output::word(b"horizontal,rl,lr,", row[6]);
+    print_choice(b" line auto, line , line -,", row[7], row[8]);
+    output::word(b" snap,,", row[9]);
+    output::word(b" start, center, end,", row[10]);
+    print_choice(b" position auto, position ,", row[11], row[12]);
+    output::word(b" auto, line-left, center, line-right,", row[13]);
+    print_labelled(b" size ", row[14]);
+    output::word(
+        b" align start, align center, align end, align left, align right,",
+        row[15],
+    );
+}
+
+// The settings go through the row of a cue that has them, so that each choice is printed by its code.
+fn print_settings(text: &[u8], settings: Settings) {
+    let vertical = settings.vertical;
+    let line = settings.line;
+    let position = settings.position;
+    let align = settings.align;
+    let region = settings.region;
+    let cue = CueEntry {
+        id: region,
+        start: 0,
+        end: 0,
+        text: region,
+        vertical: vertical,
+        line: line,
+        position: position,
+        size: settings.size,
+        align: align,
+        region: RegionIndex::None,
+    };
+    print_cue_row(rows::cue_row(cue));
+    output::print(b" region ");
+    print_part(text, region);
+}
+
+// The numbers and the choice of a region's row.
+fn print_region_row(row: [u64; 9]) {
+    print_labelled(b" width ", row[2]);
+    print_labelled(b" lines ", row[3]);
+    print_labelled(b" anchor ", row[4]);
+    print_labelled(b",", row[5]);
+    print_labelled(b" viewport ", row[6]);
+    print_labelled(b",", row[7]);
+    output::word(b" none, up,", row[8]);
+}
+
+fn print_region(text: &[u8], region: Region) {
+    let id = region.id;
+    output::print(b"id ");
+    print_part(text, id);
+    print_region_row(rows::region_row(region));
+}
+
+fn print_timing(text: &[u8], timing: Timing) {
+    let settings = timing.settings;
+    output::digits(timing.start);
+    print_labelled(b" ", timing.end);
+    output::print(b" ");
+    print_settings(text, settings);
+}
+
+fn print_timing_line(text: &[u8]) {
+    match timing::line_of(text, 0, text.len()) {
+        TimingLine::Bad => print_found(FAILS, 0),
+        TimingLine::Over => print_found(OVER, 0),
+        TimingLine::Good(timing) => print_timing(text, timing),
+    }
+}
+
+fn print_cue_settings(text: &[u8]) {
+    let taken = timing::all_settings(text, 0, text.len());
+    if taken.over {
+        print_found(OVER, 0);
+        return;
+    }
+    let settings = taken.settings;
+    print_settings(text, settings);
+}
+
+fn print_region_settings(text: &[u8]) {
+    let taken = regions::all_settings(text, 0, text.len());
+    if taken.over {
+        print_found(OVER, 0);
+        return;
+    }
+    let region = taken.region;
+    print_region(text, region);
+}
+
+fn run_kind(kind: u8, text: &[u8]) {
+    match kind {
+        b'T' => print_time(text),
+        b'P' => print_percentage(text),
+        b'N' => print_line_number(text),
+        b'C' => print_line_count(text),
+        b'S' => print_cue_settings(text),
+        b'R' => print_region_settings(text),
+        _ => print_timing_line(text),
+    }
+}
+
+pub fn run(line: &[u8]) {
+    if line.len() < 2 {
+        return;
+    }
+    output::print(line);
+    output::print(b"\n  ");
+    run_kind(line[0], &line[2..]);
+    output::print(b"\n");
+}
