@@ -167,7 +167,7 @@ fn read_fields(line: &[u8], fields: FieldPlaces, room: &mut [u8]) -> Asked {
         return Asked::Bad;
     };
     let field = fields.settings;
-    let taken = timing::all_settings(line, field.from, field.to);
+    let taken = cue_settings::all_settings(line, field.from, field.to);
     if taken.over {
         return Asked::Bad;
     }

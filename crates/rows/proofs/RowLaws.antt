@@ -7,21 +7,24 @@ use mathlib.Core.Option.{Option, none, some}
 use native.Mathlib.Omega.{arith}
 use lib.Dec.{eqb, ltb}
 use lib.ListN.{length}
-use borrow.Author.Tests.{lt-ltb, ne-eqb}
+use borrow.Author.Tests.{le-ltb, lt-ltb, ne-eqb}
 use Rattle.format.specs.Rows.{word, cueCodesNamed, regionCodesNamed, cueOfRow, regionOfRow, cueWords, regionWords, directionOf, lineOf, lineAlignOf, positionOf, positionAlignOf, alignOf, regionIndexOf, scrollOf, directionWord, lineWord, lineNumberWord, snapWord, lineAlignWord, positionWord, positionNumberWord, positionAlignWord, alignWord, regionWord, scrollWord, greatestWord, regionFor, entryIs, ids, indexIs}
 use Rattle.format.specs.Texts.{Part, isEmpty}
 use Rattle.format.specs.RegionSettings.{RegionValues, lastNamed}
 use Rattle.format.specs.Lists.{Cue}
 use Rattle.laws.proofs.Tests.{by-test, and-false}
 use Rattle.laws.proofs.Names.{found}
+use Rattle.rows.specs.Places.{linePlaceOf, positionPlaceOf}
 use Rattle.format.specs.declared.settings.Direction.{Direction}
 use Rattle.format.specs.declared.settings.Direction.the-variants as Direction
 use Rattle.format.specs.declared.settings.Line.{Line}
 use Rattle.format.specs.declared.settings.Line.the-variants as Line
+use Rattle.format.specs.declared.settings.LinePlace.{LinePlace}
 use Rattle.format.specs.declared.settings.LineAlign.{LineAlign}
 use Rattle.format.specs.declared.settings.LineAlign.the-variants as LineAlign
 use Rattle.format.specs.declared.settings.Position.{Position}
 use Rattle.format.specs.declared.settings.Position.the-variants as Position
+use Rattle.format.specs.declared.settings.PositionPlace.{PositionPlace}
 use Rattle.format.specs.declared.settings.PositionAlign.{PositionAlign}
 use Rattle.format.specs.declared.settings.PositionAlign.the-variants as PositionAlign
 use Rattle.format.specs.declared.settings.Align.{Align}
@@ -39,6 +42,32 @@ use Rattle.format.specs.declared.rows.RegionDecoded.the-variants as RegionDecod
 
 pub and-none : (t : Bool) → t && false ≡ false
 and-none t = and-false t false refl
+
+-- one code that names no choice
+module _ (w : List ℕ) where
+  pub unnamed-6 : 3 ≤ word 6 w → false ≡ cueCodesNamed w
+  unfolding cueCodesNamed
+  unnamed-6 l = rw (le-ltb _ _ l)
+
+  pub unnamed-7 : 3 ≤ word 7 w → false ≡ cueCodesNamed w
+  unfolding cueCodesNamed
+  unnamed-7 l = rw (le-ltb _ _ l, and-none)
+
+  pub unnamed-9 : 2 ≤ word 9 w → false ≡ cueCodesNamed w
+  unfolding cueCodesNamed
+  unnamed-9 l = rw (le-ltb _ _ l, and-none, and-none)
+
+  pub unnamed-10 : 3 ≤ word 10 w → false ≡ cueCodesNamed w
+  unfolding cueCodesNamed
+  unnamed-10 l = rw (le-ltb _ _ l, and-none, and-none, and-none)
+
+  pub unnamed-11 : 2 ≤ word 11 w → false ≡ cueCodesNamed w
+  unfolding cueCodesNamed
+  unnamed-11 l = rw (le-ltb _ _ l, and-none, and-none, and-none, and-none)
+
+  pub unnamed-13 : 4 ≤ word 13 w → false ≡ cueCodesNamed w
+  unfolding cueCodesNamed
+  unnamed-13 l = rw (le-ltb _ _ l, and-none, and-none, and-none, and-none, and-none)
 
 -- the last test decides where the others hold
 pub last-code :
@@ -62,7 +91,7 @@ last-code w a b c d e f =
     )
 
 -- an entry whose choices are those that the row names
-module _ (w : List ℕ) (d : Direction) (l : Line) (la : LineAlign) (p : Position) (pa : PositionAlign) (a : Align) (i : RegionIndex) where
+module _ (w : List ℕ) (d : Direction) (l : LinePlace) (p : PositionPlace) (a : Align) (i : RegionIndex) where
   abbrev pub entryWith : CueEntry
   entryWith =
       record {
@@ -71,8 +100,8 @@ module _ (w : List ℕ) (d : Direction) (l : Line) (la : LineAlign) (p : Positio
         end = word 3 w;
         text = record { from = word 4 w; to = word 5 w };
         vertical = d;
-        line = record { line = l; snap = eqb (word 9 w) 0; align = la };
-        position = record { position = p; align = pa };
+        line = l;
+        position = p;
         size = word 14 w;
         align = a;
         region = i;
@@ -81,15 +110,47 @@ module _ (w : List ℕ) (d : Direction) (l : Line) (la : LineAlign) (p : Positio
   pub entry-is :
       cueCodesNamed w ≡ true
       → d ≡ directionOf (word 6 w)
-      → l ≡ lineOf (word 7 w) (word 8 w)
-      → la ≡ lineAlignOf (word 10 w)
-      → p ≡ positionOf (word 11 w) (word 12 w)
-      → pa ≡ positionAlignOf (word 13 w)
+      → l ≡ linePlaceOf w
+      → p ≡ positionPlaceOf w
       → a ≡ alignOf (word 15 w)
       → i ≡ regionIndexOf (word 16 w)
       → CueDecoded.Good entryWith ≡ cueOfRow w
   unfolding cueOfRow
-  entry-is n ed el ela ep epa ea ei = rw (n, ed, el, ela, ep, epa, ea, ei)
+  entry-is n ed el ep ea ei = rw (n, ed, el, ep, ea, ei)
+
+-- a row whose coded words are those of the entry's choices
+pub row-is :
+    (e : CueEntry) {d l n s la p m pa a i : ℕ}
+    → d ≡ directionWord (e .vertical)
+    → l ≡ lineWord (e .line .line)
+    → n ≡ lineNumberWord (e .line .line)
+    → s ≡ snapWord (e .line .snap)
+    → la ≡ lineAlignWord (e .line .align)
+    → p ≡ positionWord (e .position .position)
+    → m ≡ positionNumberWord (e .position .position)
+    → pa ≡ positionAlignWord (e .position .align)
+    → a ≡ alignWord (e .align)
+    → i ≡ regionWord (e .region)
+    → e .id .from
+    ∷ e .id .to
+    ∷ e .start
+    ∷ e .end
+    ∷ e .text .from
+    ∷ e .text .to
+    ∷ d
+    ∷ l
+    ∷ n
+    ∷ s
+    ∷ la
+    ∷ p
+    ∷ m
+    ∷ pa
+    ∷ e .size
+    ∷ a
+    ∷ i
+    ∷ []
+    ≡ cueWords e
+row-is e ed el en es ela ep em epa ea ei = rw (ed, el, en, es, ela, ep, em, epa, ea, ei)
 
 -- each choice's word is one of those named, and names the choice
 direction-coded : (d : Direction) → (ltb (directionWord d) 3 ≡ true) × (directionOf (directionWord d) ≡ d)
@@ -164,21 +225,16 @@ cue-inverse e l =
     (entry-is
     (cueWords e)
     (e .vertical)
-    (e .line .line)
-    (e .line .align)
-    (e .position .position)
-    (e .position .align)
+    (e .line)
+    (e .position)
     (e .align)
     (e .region)
     (cue-codes e)
     (sym (direction-coded (e .vertical) .1))
-    (sym (line-coded (e .line .line) .1))
-    (sym (line-align-coded (e .line .align) .1))
-    (sym (position-coded (e .position .position) .1))
-    (sym (position-align-coded (e .position .align) .1))
+    (rw (line-coded (e .line .line) .1, snap-coded (e .line .snap) .1, line-align-coded (e .line .align) .1) refl)
+    (rw (position-coded (e .position .position) .1, position-align-coded (e .position .align) .1) refl)
     (sym (align-coded (e .align) .1))
     (sym (region-coded (e .region) l)))
-    ∙ rw (snap-coded (e .line .snap) .1)
 
 pub region-inverse : (r : Region) → regionOfRow (regionWords r) ≡ RegionDecoded.Good r
 unfolding regionOfRow regionCodesNamed

@@ -5,10 +5,13 @@ use format::settings::Align;
 use format::settings::Direction;
 use format::settings::Line;
 use format::settings::LineAlign;
+use format::settings::LinePlace;
 use format::settings::Position;
 use format::settings::PositionAlign;
+use format::settings::PositionPlace;
 ghost use mathlib.Core.Path.{_≡_};
 ghost use Rattle.format.specs.Rows.{directionOf, lineOf, lineAlignOf, positionOf, positionAlignOf, alignOf, regionIndexOf, scrollOf, cueCodesNamed};
+ghost use Rattle.rows.specs.Places.{linePlaceOf, positionPlaceOf};
 
 pub fn direction(n: u64) -> Direction
     ensures { λ r. ⌜ r ≡ directionOf n ⌝ }
@@ -89,6 +92,26 @@ pub fn scroll(n: u64) -> Scroll
     match n {
         0 => Scroll::None,
         _ => Scroll::Up,
+    }
+}
+
+// A cue's line and position, of its row; each a function, since one for the whole row takes long to prove.
+pub fn line_place(row: [u64; 17]) -> LinePlace
+    ensures { λ r. ⌜ r ≡ linePlaceOf row ⌝ }
+{
+    LinePlace {
+        line: line(row[7], row[8]),
+        snap: row[9] == 0,
+        align: line_align(row[10]),
+    }
+}
+
+pub fn position_place(row: [u64; 17]) -> PositionPlace
+    ensures { λ r. ⌜ r ≡ positionPlaceOf row ⌝ }
+{
+    PositionPlace {
+        position: position(row[11], row[12]),
+        align: position_align(row[13]),
     }
 }
 

@@ -8,8 +8,6 @@ use format::rows::CueDecoded;
 use format::rows::CueEntry;
 use format::rows::RegionDecoded;
 use format::rows::RegionIndex;
-use format::settings::LinePlace;
-use format::settings::PositionPlace;
 use format::settings::Span;
 use values::bytes::same_bytes;
 ghost use mathlib.Core.Path.{_≡_};
@@ -25,8 +23,6 @@ ghost use Rattle.values.specs.Tokens.{partOf};
 pub fn cue_row(entry: CueEntry) -> [u64; 17]
     ensures { λ r. ⌜ r ≡ cueWords entry ⌝ }
 {
-    let id = entry.id;
-    let text = entry.text;
     let vertical = entry.vertical;
     let place = entry.line;
     let line = place.line;
@@ -37,12 +33,12 @@ pub fn cue_row(entry: CueEntry) -> [u64; 17]
     let across = entry.align;
     let region = entry.region;
     [
-        id.from as u64,
-        id.to as u64,
+        entry.id.from as u64,
+        entry.id.to as u64,
         entry.start,
         entry.end,
-        text.from as u64,
-        text.to as u64,
+        entry.text.from as u64,
+        entry.text.to as u64,
         words::direction(vertical),
         words::line(line),
         words::line_number(line),
@@ -61,19 +57,16 @@ pub fn cue_row(entry: CueEntry) -> [u64; 17]
 pub fn region_row(region: Region) -> [u64; 9]
     ensures { λ r. ⌜ r ≡ regionWords region ⌝ }
 {
-    let id = region.id;
-    let anchor = region.anchor;
-    let viewport = region.viewport;
     let scroll = region.scroll;
     [
-        id.from as u64,
-        id.to as u64,
+        region.id.from as u64,
+        region.id.to as u64,
         region.width,
         region.lines,
-        anchor.x,
-        anchor.y,
-        viewport.x,
-        viewport.y,
+        region.anchor.x,
+        region.anchor.y,
+        region.viewport.x,
+        region.viewport.y,
         words::scroll(scroll),
     ]
 }
@@ -104,15 +97,8 @@ pub fn cue_entry(row: [u64; 17]) -> CueDecoded
             to: row[5] as usize,
         },
         vertical: choices::direction(row[6]),
-        line: LinePlace {
-            line: choices::line(row[7], row[8]),
-            snap: row[9] == 0,
-            align: choices::line_align(row[10]),
-        },
-        position: PositionPlace {
-            position: choices::position(row[11], row[12]),
-            align: choices::position_align(row[13]),
-        },
+        line: choices::line_place(row),
+        position: choices::position_place(row),
         size: row[14],
         align: choices::align(row[15]),
         region: choices::region(row[16]),

@@ -1,4 +1,2 @@
 -- Laws that the functions' proofs cite.
 mod LineLaws
-mod SettingLaws
-pub mod AlignLaws

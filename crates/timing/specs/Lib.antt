@@ -1,3 +1,2 @@
 -- What the contracts of this crate's own functions say beyond `format`.
-pub mod CueSettings
 pub mod TimingLines

@@ -79,7 +79,7 @@ fn with_settings(s: &[u8], at: usize, over: bool, start: u64, end: u64) -> Timin
     requires { ⌜ at ≤ length (now s) ⌝ }
     ensures { λ r. ⌜ r ≡ withSettingsIs (now (s .entry)) over start end at ⌝ }
 {
-    let taken = super::cue_settings::read_settings(s, at);
+    let taken = cue_settings::steps::read_settings(s, at);
     if over {
         return TimingLine::Over;
     }

@@ -166,7 +166,7 @@ fn print_timing_line(text: &[u8]) {
 }
 
 fn print_cue_settings(text: &[u8]) {
-    let taken = timing::all_settings(text, 0, text.len());
+    let taken = cue_settings::all_settings(text, 0, text.len());
     if taken.over {
         print_found(OVER, 0);
         return;

@@ -38,41 +38,14 @@ array-read-direction c = search needs
 direction-requires : tie.Need-direction-requires
 direction-requires c κs = search needs
 
-array-read-line : tie.Need-array-read-line
-array-read-line c = search needs
+line-place-requires : tie.Need-line-place-requires
+line-place-requires c κs = search needs
 
-array-read-line-2 : tie.Need-array-read-line-2
-array-read-line-2 c = search needs
+position-place-requires : tie.Need-position-place-requires
+position-place-requires c κs = search needs
 
-line-requires : tie.Need-line-requires
-line-requires c κs = search needs
-
-array-read-t43 : tie.Need-array-read-t43
-array-read-t43 c = search needs
-
-array-read-line-align : tie.Need-array-read-line-align
-array-read-line-align c = search needs
-
-line-align-requires : tie.Need-line-align-requires
-line-align-requires c κs = search needs
-
-array-read-position : tie.Need-array-read-position
-array-read-position c = search needs
-
-array-read-position-2 : tie.Need-array-read-position-2
-array-read-position-2 c = search needs
-
-position-requires : tie.Need-position-requires
-position-requires c κs = search needs
-
-array-read-position-align : tie.Need-array-read-position-align
-array-read-position-align c = search needs
-
-position-align-requires : tie.Need-position-align-requires
-position-align-requires c κs = search needs
-
-array-read-t63 : tie.Need-array-read-t63
-array-read-t63 c = search needs
+array-read-t39 : tie.Need-array-read-t39
+array-read-t39 c = search needs
 
 array-read-align : tie.Need-array-read-align
 array-read-align c = search needs
@@ -88,22 +61,18 @@ region-requires c κs = search needs
 
 returns-2 : tie.Need-returns-2
 returns-2 c =
-    let tested = c .before .before .before .before .before .before .before in
+    let tested = c .before .before .before .before .before in
     entry-is
     (tested .before .before .args .t1)
-    (c .before .before .before .before .before .before .direction .result)
-    (c .before .before .before .before .before .line .result)
-    (c .before .before .before .before .line-align .result)
-    (c .before .before .before .position .result)
-    (c .before .before .position-align .result)
+    (c .before .before .before .before .direction .result)
+    (c .before .before .before .line-place .result)
+    (c .before .before .position-place .result)
     (c .before .align .result)
     (c .region .result)
     (sym (tested .before .are-named .ensures) ∙ not-false (tested .before .are-named .result) (tested .if1 .left))
-    (c .before .before .before .before .before .before .direction .ensures)
-    (c .before .before .before .before .before .line .ensures)
-    (c .before .before .before .before .line-align .ensures)
-    (c .before .before .before .position .ensures)
-    (c .before .before .position-align .ensures)
+    (c .before .before .before .before .direction .ensures)
+    (c .before .before .before .line-place .ensures)
+    (c .before .before .position-place .ensures)
     (c .before .align .ensures)
     (c .region .ensures)
 
@@ -121,18 +90,9 @@ cue-entry-spec =
     array-read-t27
     array-read-direction
     direction-requires
-    array-read-line
-    array-read-line-2
-    line-requires
-    array-read-t43
-    array-read-line-align
-    line-align-requires
-    array-read-position
-    array-read-position-2
-    position-requires
-    array-read-position-align
-    position-align-requires
-    array-read-t63
+    line-place-requires
+    position-place-requires
+    array-read-t39
     array-read-align
     align-requires
     array-read-region

@@ -1,4 +1,5 @@
 -- `rows::cue_row` meets its contract.
+use Rattle.rows.proofs.RowLaws.{row-is}
 use borrow.Author.Needs.{needs}
 use Rattle.rows.proofs.cue_row.Statement.{statement}
 use Rattle.rows.proofs.cue_row.Tie as tie
@@ -35,18 +36,19 @@ region-requires c κs = search needs
 
 returns : tie.Need-returns
 returns c =
-    rw (
-      c .region .ensures,
-      c .before .align .ensures,
-      c .before .before .position-align .ensures,
-      c .before .before .before .position-number .ensures,
-      c .before .before .before .before .position .ensures,
-      c .before .before .before .before .before .line-align .ensures,
-      c .before .before .before .before .before .before .snap .ensures,
-      c .before .before .before .before .before .before .before .line-number .ensures,
-      c .before .before .before .before .before .before .before .before .line .ensures,
-      c .before .before .before .before .before .before .before .before .before .direction .ensures,
-    )
+    let first = c .before .before .before .before .before .before .before .before .before in
+    row-is
+    (first .before .before .before .args .entry)
+    (first .direction .ensures)
+    (c .before .before .before .before .before .before .before .before .line .ensures)
+    (c .before .before .before .before .before .before .before .line-number .ensures)
+    (c .before .before .before .before .before .before .snap .ensures)
+    (c .before .before .before .before .before .line-align .ensures)
+    (c .before .before .before .before .position .ensures)
+    (c .before .before .before .position-number .ensures)
+    (c .before .before .position-align .ensures)
+    (c .before .align .ensures)
+    (c .region .ensures)
 
 pub cue-row-spec : {M : Type 1} → statement M
 cue-row-spec =

@@ -1,7 +1,5 @@
 -- `rows::choices::are_named` meets its contract.
-use borrow.Author.Tests.{le-ltb}
-use Rattle.format.specs.Rows.{cueCodesNamed}
-use Rattle.rows.proofs.RowLaws.{and-none, last-code}
+use Rattle.rows.proofs.RowLaws.{unnamed-6, unnamed-7, unnamed-9, unnamed-10, unnamed-11, unnamed-13, last-code}
 use borrow.Author.Needs.{needs}
 use Rattle.rows.proofs.choices.are_named.Statement.{statement}
 use Rattle.rows.proofs.choices.are_named.Tie as tie
@@ -10,43 +8,37 @@ array-read-if1 : tie.Need-array-read-if1
 array-read-if1 c = search needs
 
 returns : tie.Need-returns
-unfolding cueCodesNamed
-returns c = simp (le-ltb _ _ (c .if1 .taken))
+returns c = unnamed-6 _ (c .if1 .taken)
 
 array-read-if2 : tie.Need-array-read-if2
 array-read-if2 c = search needs
 
 returns-2 : tie.Need-returns-2
-unfolding cueCodesNamed
-returns-2 c = simp (le-ltb _ _ (c .if2 .taken), and-none)
+returns-2 c = unnamed-7 _ (c .if2 .taken)
 
 array-read-if3 : tie.Need-array-read-if3
 array-read-if3 c = search needs
 
 returns-3 : tie.Need-returns-3
-unfolding cueCodesNamed
-returns-3 c = simp (le-ltb _ _ (c .if3 .taken), and-none)
+returns-3 c = unnamed-9 _ (c .if3 .taken)
 
 array-read-if4 : tie.Need-array-read-if4
 array-read-if4 c = search needs
 
 returns-4 : tie.Need-returns-4
-unfolding cueCodesNamed
-returns-4 c = simp (le-ltb _ _ (c .if4 .taken), and-none)
+returns-4 c = unnamed-10 _ (c .if4 .taken)
 
 array-read-if5 : tie.Need-array-read-if5
 array-read-if5 c = search needs
 
 returns-5 : tie.Need-returns-5
-unfolding cueCodesNamed
-returns-5 c = simp (le-ltb _ _ (c .if5 .taken), and-none)
+returns-5 c = unnamed-11 _ (c .if5 .taken)
 
 array-read-if6 : tie.Need-array-read-if6
 array-read-if6 c = search needs
 
 returns-6 : tie.Need-returns-6
-unfolding cueCodesNamed
-returns-6 c = simp (le-ltb _ _ (c .if6 .taken), and-none)
+returns-6 c = unnamed-13 _ (c .if6 .taken)
 
 array-read-result : tie.Need-array-read-result
 array-read-result c = search needs

@@ -1,0 +1,24 @@
+-- `cue_settings::steps::line_percentage` meets its contract.
+use mathlib.Core.Path.{sym, _∙_}
+use borrow.Author.Needs.{needs}
+use Rattle.cue_settings.proofs.steps.line_percentage.Statement.{statement}
+use Rattle.cue_settings.proofs.steps.line_percentage.Tie as tie
+
+read-percentage-requires : tie.Need-read-percentage-requires
+read-percentage-requires c κs = search needs
+
+enum-told : tie.Need-enum-told
+enum-told c = search needs
+
+enum-known-n : tie.Need-enum-known-n
+enum-known-n c = search needs
+
+returns : tie.Need-returns
+returns c = rw (sym (c .before .before .read-percentage .ensures) ∙ c .enum-told .given .1)
+
+returns-2 : tie.Need-returns-2
+returns-2 c = rw (sym (c .before .before .before .read-percentage .ensures) ∙ c .before .n .given .1)
+
+pub line-percentage-spec : {M : Type 1} → statement M
+line-percentage-spec =
+    tie.close (tie.spec read-percentage-requires enum-told enum-known-n returns returns-2)
