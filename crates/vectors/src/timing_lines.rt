@@ -92,14 +92,22 @@ fn print_choice(words: &[u8], code: u64, n: u64) {
     }
 }
 
-// The choices of a cue's row.
-fn print_cue_row(row: [u64; 17]) {
-    output::word(b"horizontal,rl,lr,", row[6]);
+fn print_line(row: [u64; 17]) {
     print_choice(b" line auto, line , line -,", row[7], row[8]);
     output::word(b" snap,,", row[9]);
     output::word(b" start, center, end,", row[10]);
+}
+
+fn print_position(row: [u64; 17]) {
     print_choice(b" position auto, position ,", row[11], row[12]);
     output::word(b" auto, line-left, center, line-right,", row[13]);
+}
+
+// The choices of a cue's row.
+fn print_cue_row(row: [u64; 17]) {
+    output::word(b"horizontal,rl,lr,", row[6]);
+    print_line(row);
+    print_position(row);
     print_labelled(b" size ", row[14]);
     output::word(
         b" align start, align center, align end, align left, align right,",
