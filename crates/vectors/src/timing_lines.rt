@@ -115,38 +115,46 @@ fn print_cue_row(row: [u64; 17]) {
     );
 }
 
-// The settings go through the row of a cue that has them, so that each choice is printed by its code.
-fn print_settings(text: &[u8], settings: Settings) {
+// The row of a cue that has these settings, and no region, so that each choice is printed by its code.
+fn row_of(settings: Settings) -> [u64; 17] {
     let vertical = settings.vertical;
     let line = settings.line;
     let position = settings.position;
     let align = settings.align;
-    let region = settings.region;
-    let cue = CueEntry {
-        id: region,
+    let none = Span { from: 0, to: 0 };
+    rows::cue_row(CueEntry {
+        id: none,
         start: 0,
         end: 0,
-        text: region,
+        text: none,
         vertical: vertical,
         line: line,
         position: position,
         size: settings.size,
         align: align,
         region: RegionIndex::None,
-    };
-    print_cue_row(rows::cue_row(cue));
+    })
+}
+
+fn print_settings(text: &[u8], settings: Settings) {
+    let region = settings.region;
+    print_cue_row(row_of(settings));
     output::print(b" region ");
     print_part(text, region);
+}
+
+fn print_points(row: [u64; 9]) {
+    print_labelled(b" anchor ", row[4]);
+    print_labelled(b",", row[5]);
+    print_labelled(b" viewport ", row[6]);
+    print_labelled(b",", row[7]);
 }
 
 // The numbers and the choice of a region's row.
 fn print_region_row(row: [u64; 9]) {
     print_labelled(b" width ", row[2]);
     print_labelled(b" lines ", row[3]);
-    print_labelled(b" anchor ", row[4]);
-    print_labelled(b",", row[5]);
-    print_labelled(b" viewport ", row[6]);
-    print_labelled(b",", row[7]);
+    print_points(row);
     output::word(b" none, up,", row[8]);
 }
 
