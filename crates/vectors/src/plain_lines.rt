@@ -6,47 +6,28 @@ use listing::output;
 ghost use Prim.Native.Nat.{_≤_, _<_};
 ghost use lib.ListN.{length};
 
-// The value of a hexadecimal digit; 16 where it is none.
+// The value of a hexadecimal digit; 0 where it is none, which is so in no vector.
 fn digit(c: u8) -> u8
-    ensures { λ r. ⌜ r ≤ 16 ⌝ }
+    ensures { λ r. ⌜ r < 16 ⌝ }
 {
-    if c < b'0' {
-        return 16;
+    match c {
+        b'0'..=b'9' => c - b'0',
+        b'A'..=b'F' => c - b'A' + 10,
+        _ => 0,
     }
-    if c <= b'9' {
-        return c - b'0';
-    }
-    if c < b'A' {
-        return 16;
-    }
-    if c <= b'F' {
-        return c - b'A' + 10;
-    }
-    16
 }
 
-// Reads pairs of digits into `raw`, and gives their number. It ends at the first byte that is no digit.
+// Reads pairs of digits into `raw`, as many as it holds, and gives their number.
 fn decode(line: &[u8], raw: &mut [u8]) -> usize
     ensures { λ r. ⌜ r ≤ length (now (raw .exit)) ⌝ }
 {
+    let count = values::least(line.len() / 2, raw.len());
     let mut n: usize = 0;
-    while n < raw.len() {
-        if line.len() / 2 <= n {
-            return n;
-        }
-        let i = 2 * n;
-        let high = digit(line[i]);
-        let low = digit(line[i + 1]);
-        if 15 < high {
-            return n;
-        }
-        if 15 < low {
-            return n;
-        }
-        raw[n] = high * 16 + low;
+    while n < count {
+        raw[n] = digit(line[2 * n]) * 16 + digit(line[2 * n + 1]);
         n += 1;
     }
-    n
+    count
 }
 
 fn hex_digit(n: u8) -> u8

@@ -92,14 +92,22 @@ fn print_choice(words: &[u8], code: u64, n: u64) {
     }
 }
 
-// The choices of a cue's row.
-fn print_cue_row(row: [u64; 17]) {
-    output::word(b"horizontal,rl,lr,", row[6]);
+fn print_line(row: [u64; 17]) {
     print_choice(b" line auto, line , line -,", row[7], row[8]);
     output::word(b" snap,,", row[9]);
     output::word(b" start, center, end,", row[10]);
+}
+
+fn print_position(row: [u64; 17]) {
     print_choice(b" position auto, position ,", row[11], row[12]);
     output::word(b" auto, line-left, center, line-right,", row[13]);
+}
+
+// The choices of a cue's row.
+fn print_cue_row(row: [u64; 17]) {
+    output::word(b"horizontal,rl,lr,", row[6]);
+    print_line(row);
+    print_position(row);
     print_labelled(b" size ", row[14]);
     output::word(
         b" align start, align center, align end, align left, align right,",
@@ -107,38 +115,46 @@ fn print_cue_row(row: [u64; 17]) {
     );
 }
 
-// The settings go through the row of a cue that has them, so that each choice is printed by its code.
-fn print_settings(text: &[u8], settings: Settings) {
+// The row of a cue that has these settings, and no region, so that each choice is printed by its code.
+fn row_of(settings: Settings) -> [u64; 17] {
     let vertical = settings.vertical;
     let line = settings.line;
     let position = settings.position;
     let align = settings.align;
-    let region = settings.region;
-    let cue = CueEntry {
-        id: region,
+    let none = Span { from: 0, to: 0 };
+    rows::cue_row(CueEntry {
+        id: none,
         start: 0,
         end: 0,
-        text: region,
+        text: none,
         vertical: vertical,
         line: line,
         position: position,
         size: settings.size,
         align: align,
         region: RegionIndex::None,
-    };
-    print_cue_row(rows::cue_row(cue));
+    })
+}
+
+fn print_settings(text: &[u8], settings: Settings) {
+    let region = settings.region;
+    print_cue_row(row_of(settings));
     output::print(b" region ");
     print_part(text, region);
+}
+
+fn print_points(row: [u64; 9]) {
+    print_labelled(b" anchor ", row[4]);
+    print_labelled(b",", row[5]);
+    print_labelled(b" viewport ", row[6]);
+    print_labelled(b",", row[7]);
 }
 
 // The numbers and the choice of a region's row.
 fn print_region_row(row: [u64; 9]) {
     print_labelled(b" width ", row[2]);
     print_labelled(b" lines ", row[3]);
-    print_labelled(b" anchor ", row[4]);
-    print_labelled(b",", row[5]);
-    print_labelled(b" viewport ", row[6]);
-    print_labelled(b",", row[7]);
+    print_points(row);
     output::word(b" none, up,", row[8]);
 }
 
