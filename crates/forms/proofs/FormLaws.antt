@@ -17,7 +17,8 @@ use Rattle.format.specs.declared.regions.Region.{Region}
 use Rattle.laws.proofs.Lines.{splits}
 use Rattle.laws.proofs.Standing.{ended-append}
 use Rattle.roundtrip.proofs.Cues.{names-of}
-use Rattle.forms.specs.Forms.{namedRegion, settingsForm, timingForm, cueForm, recordContents, numberLines}
+use Rattle.setting_forms.specs.Settings.{namedRegion, settingsForm}
+use Rattle.forms.specs.Forms.{timingForm, cueForm, recordContents, numberLines}
 
 -- the lines of a text, and lines behind them
 pub ended-split : (s : List ℕ) → endedLines (split s) ≡ lf ∷ s

@@ -1,3 +1,2 @@
 -- Laws that this crate's proofs cite.
-pub mod SettingLaws
 pub mod FormLaws

@@ -1,6 +1,4 @@
 // The written form of one cue, one region and one style text, put into an output room from a place on. Any rows are taken, over any text.
-mod settings;
-
 use format::regions::Point;
 use format::regions::Region;
 use format::regions::Scroll;
@@ -22,7 +20,8 @@ ghost use Rattle.format.specs.Parts.{bytesAt};
 ghost use Rattle.format.specs.Writable.{cueOfWords, regionOfWords, styleOfWords};
 ghost use Rattle.format.specs.Written.{writtenPoint, writtenId, writtenScroll, regionLines, styleLines, cueLines};
 ghost use Rattle.output.specs.Puts.{Puts};
-ghost use Rattle.forms.specs.Forms.{asked, timingForm, cueForm, numberLines, recordContents};
+ghost use Rattle.setting_forms.specs.Settings.{asked};
+ghost use Rattle.forms.specs.Forms.{timingForm, cueForm, numberLines, recordContents};
 
 // A text and a line end behind it; nothing where it is empty.
 fn line_before(s: &[u8], out: &mut [u8], at: usize) -> usize
@@ -52,7 +51,7 @@ fn timing_line(row: [u64; 17], asks: bool, name: &[u8], out: &mut [u8], at: usiz
     let arrow = time(row[2], out, at);
     let end = bytes(b" --> ", out, arrow);
     let behind = time(row[3], out, end);
-    settings::settings(row, asks, name, out, behind)
+    setting_forms::settings(row, asks, name, out, behind)
 }
 
 // One cue without a last line end, with the name of the region it asks for, if it asks for one.

@@ -27,7 +27,8 @@ use Rattle.format.specs.Replacing.{nameLent, regionAsked, withRegion, cueAsked,
 use Rattle.laws.proofs.Tests.{by-test}
 use Rattle.roundtrip.proofs.Shape.{none-fails}
 use Rattle.replaced.proofs.Asked.{names-are, asked-name}
-use Rattle.forms.specs.Forms.{asked, namedRegion, settingsForm, timingForm, cueForm}
+use Rattle.setting_forms.specs.Settings.{asked, namedRegion, settingsForm}
+use Rattle.forms.specs.Forms.{timingForm, cueForm}
 use Rattle.places.specs.Places.{lineEnds, OwnLines}
 use Rattle.places.specs.NewCue.{cueRow}
 use Rattle.replace.specs.NewCue.{lentForm, inPlace, Outcome}

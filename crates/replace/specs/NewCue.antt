@@ -13,7 +13,8 @@ use Rattle.format.specs.Lists.{items, lists, anyOver}
 use Rattle.format.specs.Answers.{Answer, refused, ifAccepted, fileAnswer, placed}
 use Rattle.format.specs.Replacing.{nameLent, newCueFails, regionNames, newFile, noGap, replacingIs, unlessTest}
 use Rattle.format.specs.declared.Replacing.{Replacing}
-use Rattle.forms.specs.Forms.{asked, cueForm}
+use Rattle.setting_forms.specs.Settings.{asked}
+use Rattle.forms.specs.Forms.{cueForm}
 use Rattle.places.specs.NewCue.{cueRow}
 
 -- the written form of the new cue

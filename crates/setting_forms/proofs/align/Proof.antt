@@ -1,10 +1,10 @@
--- `forms::settings::position_align` meets its contract.
-use Rattle.format.specs.Written.{writtenPositionAlign}
+-- `setting_forms::align` meets its contract.
+use Rattle.format.specs.Written.{afterSpaces, setting, writtenAlign}
 use Rattle.output.proofs.PutLaws.{puts-none}
 use borrow.Author.Tests.{ne-eqb}
 use borrow.Author.Needs.{needs}
-use Rattle.forms.proofs.settings.position_align.Statement.{statement}
-use Rattle.forms.proofs.settings.position_align.Tie as tie
+use Rattle.setting_forms.proofs.align.Statement.{statement}
+use Rattle.setting_forms.proofs.align.Tie as tie
 
 slice-aggregate-bytes : tie.Need-slice-aggregate-bytes
 slice-aggregate-bytes c = search needs
@@ -24,36 +24,49 @@ slice-aggregate-bytes-3 c = search needs
 bytes-requires-3 : tie.Need-bytes-requires-3
 bytes-requires-3 c κs = search needs
 
-returns : tie.Need-returns
-unfolding writtenPositionAlign
-returns c = rw (c .match .keys1) (puts-none _ _)
+slice-aggregate-bytes-4 : tie.Need-slice-aggregate-bytes-4
+slice-aggregate-bytes-4 c = search needs
+
+bytes-requires-4 : tie.Need-bytes-requires-4
+bytes-requires-4 c κs = search needs
 
 same-length : tie.Need-same-length
 same-length c = search needs
 
+returns : tie.Need-returns
+unfolding afterSpaces setting writtenAlign
+returns c = let put = c .before .before in rw (put .before .before .before .match .keys1) (put .bytes .ensures)
+
 returns-2 : tie.Need-returns-2
-unfolding writtenPositionAlign
-returns-2 c = let put = c .before .before in rw (put .before .before .before .match .keys2) (put .bytes .ensures)
+unfolding afterSpaces writtenAlign
+returns-2 c = rw (c .match .keys2) (puts-none _ _)
 
 same-length-2 : tie.Need-same-length-2
 same-length-2 c = search needs
 
 returns-3 : tie.Need-returns-3
-unfolding writtenPositionAlign
+unfolding afterSpaces setting writtenAlign
 returns-3 c = let put = c .before .before in rw (put .before .before .before .match .keys3) (put .bytes2 .ensures)
 
 same-length-3 : tie.Need-same-length-3
 same-length-3 c = search needs
 
 returns-4 : tie.Need-returns-4
-unfolding writtenPositionAlign
-returns-4 c =
+unfolding afterSpaces setting writtenAlign
+returns-4 c = let put = c .before .before in rw (put .before .before .before .match .keys4) (put .bytes3 .ensures)
+
+same-length-4 : tie.Need-same-length-4
+same-length-4 c = search needs
+
+returns-5 : tie.Need-returns-5
+unfolding afterSpaces setting writtenAlign
+returns-5 c =
     let put = c .before .before in
     let rest = put .before .before .before .match .rest in
-    rw (ne-eqb _ _ (rest .0 .0 .1), ne-eqb _ _ (rest .0 .1), ne-eqb _ _ (rest .1)) (put .bytes3 .ensures)
+    rw (ne-eqb _ _ (rest .0 .0 .0 .1), ne-eqb _ _ (rest .0 .0 .1), ne-eqb _ _ (rest .0 .1), ne-eqb _ _ (rest .1)) (put .bytes4 .ensures)
 
-pub position-align-spec : {M : Type 1} → statement M
-position-align-spec =
+pub align-spec : {M : Type 1} → statement M
+align-spec =
     tie.close
     (tie.spec
     slice-aggregate-bytes
@@ -62,10 +75,14 @@ position-align-spec =
     bytes-requires-2
     slice-aggregate-bytes-3
     bytes-requires-3
-    returns
+    slice-aggregate-bytes-4
+    bytes-requires-4
     same-length
+    returns
     returns-2
     same-length-2
     returns-3
     same-length-3
-    returns-4)
+    returns-4
+    same-length-4
+    returns-5)

@@ -1,13 +1,13 @@
--- `forms::settings::region` meets its contract.
+-- `setting_forms::region` meets its contract.
 use Rattle.format.specs.Written.{afterSpaces}
 use Rattle.format.specs.Bytes.{ascii}
 use Rattle.output.proofs.PutLaws.{puts-none}
-use Rattle.forms.specs.Forms.{namedRegion}
-use Rattle.forms.proofs.SettingLaws.{puts-setting}
+use Rattle.setting_forms.specs.Settings.{namedRegion}
+use Rattle.setting_forms.proofs.SettingLaws.{puts-setting}
 use borrow.Author.Tests.{not-true, not-false}
 use borrow.Author.Needs.{needs}
-use Rattle.forms.proofs.settings.region.Statement.{statement}
-use Rattle.forms.proofs.settings.region.Tie as tie
+use Rattle.setting_forms.proofs.region.Statement.{statement}
+use Rattle.setting_forms.proofs.region.Tie as tie
 
 returns : tie.Need-returns
 unfolding afterSpaces namedRegion

@@ -1,10 +1,10 @@
--- `forms::settings::vertical` meets its contract.
+-- `setting_forms::vertical` meets its contract.
 use Rattle.format.specs.Written.{afterSpaces, setting, writtenVertical}
 use Rattle.output.proofs.PutLaws.{puts-none}
 use borrow.Author.Tests.{ne-eqb}
 use borrow.Author.Needs.{needs}
-use Rattle.forms.proofs.settings.vertical.Statement.{statement}
-use Rattle.forms.proofs.settings.vertical.Tie as tie
+use Rattle.setting_forms.proofs.vertical.Statement.{statement}
+use Rattle.setting_forms.proofs.vertical.Tie as tie
 
 slice-aggregate-bytes : tie.Need-slice-aggregate-bytes
 slice-aggregate-bytes c = search needs

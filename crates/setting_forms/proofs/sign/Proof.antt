@@ -1,8 +1,8 @@
--- `forms::settings::sign` meets its contract.
+-- `setting_forms::sign` meets its contract.
 use Rattle.output.proofs.PutLaws.{puts-none}
 use borrow.Author.Needs.{needs}
-use Rattle.forms.proofs.settings.sign.Statement.{statement}
-use Rattle.forms.proofs.settings.sign.Tie as tie
+use Rattle.setting_forms.proofs.sign.Statement.{statement}
+use Rattle.setting_forms.proofs.sign.Tie as tie
 
 byte-requires : tie.Need-byte-requires
 byte-requires c κs = search needs

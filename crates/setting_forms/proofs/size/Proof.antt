@@ -1,12 +1,12 @@
--- `forms::settings::size` meets its contract.
+-- `setting_forms::size` meets its contract.
 use Rattle.format.specs.Bytes.{ascii}
 use Rattle.format.specs.Written.{afterSpaces, writtenSize}
 use Rattle.output.proofs.PutLaws.{puts-none}
-use Rattle.forms.proofs.SettingLaws.{puts-setting}
+use Rattle.setting_forms.proofs.SettingLaws.{puts-setting}
 use borrow.Author.Tests.{ne-eqb, eq-eqb}
 use borrow.Author.Needs.{needs}
-use Rattle.forms.proofs.settings.size.Statement.{statement}
-use Rattle.forms.proofs.settings.size.Tie as tie
+use Rattle.setting_forms.proofs.size.Statement.{statement}
+use Rattle.setting_forms.proofs.size.Tie as tie
 
 returns : tie.Need-returns
 unfolding afterSpaces writtenSize

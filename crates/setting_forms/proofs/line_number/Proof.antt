@@ -1,4 +1,4 @@
--- `forms::settings::line_number` meets its contract.
+-- `setting_forms::line_number` meets its contract.
 use mathlib.Core.Path.{_≡_, _∙_}
 use mathlib.Core.Bool.{_&&_}
 use mathlib.Core.Logic.{⊎-elim}
@@ -8,8 +8,8 @@ use Rattle.format.specs.Written.{writtenLineNumber}
 use Rattle.output.proofs.PutLaws.{_then_}
 use borrow.Author.Tests.{ne-eqb, eq-eqb}
 use borrow.Author.Needs.{needs}
-use Rattle.forms.proofs.settings.line_number.Statement.{statement}
-use Rattle.forms.proofs.settings.line_number.Tie as tie
+use Rattle.setting_forms.proofs.line_number.Statement.{statement}
+use Rattle.setting_forms.proofs.line_number.Tie as tie
 
 array-read-if1 : tie.Need-array-read-if1
 array-read-if1 c = search needs

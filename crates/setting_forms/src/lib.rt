@@ -10,7 +10,7 @@ ghost use Rattle.format.specs.Bytes.{hyphen};
 ghost use Rattle.format.specs.Rows.{word, directionOf, lineAlignOf, positionAlignOf, alignOf};
 ghost use Rattle.format.specs.Written.{afterSpaces, writtenVertical, writtenLineAlign, writtenLineNumber, writtenLine, writtenPositionAlign, writtenPosition, writtenSize, writtenAlign};
 ghost use Rattle.output.specs.Puts.{Puts};
-ghost use Rattle.forms.specs.Forms.{linePlace, positionPlace, asked, namedRegion, settingsForm};
+ghost use Rattle.setting_forms.specs.Settings.{linePlace, positionPlace, asked, namedRegion, settingsForm};
 
 fn vertical(direction: u64, out: &mut [u8], at: usize) -> usize
     ensures { λ r. ⌜ Puts (afterSpaces (writtenVertical (directionOf direction))) at (now (out .entry)) r (now (out .exit)) ⌝ }

@@ -1,10 +1,10 @@
--- `forms::settings::settings` meets its contract.
+-- `setting_forms::settings` meets its contract.
 use Rattle.output.proofs.PutLaws.{_then_}
-use Rattle.forms.specs.Forms.{settingsForm}
-use Rattle.forms.proofs.SettingLaws.{spaces-append}
+use Rattle.setting_forms.specs.Settings.{settingsForm}
+use Rattle.setting_forms.proofs.SettingLaws.{spaces-append}
 use borrow.Author.Needs.{needs}
-use Rattle.forms.proofs.settings.settings.Statement.{statement}
-use Rattle.forms.proofs.settings.settings.Tie as tie
+use Rattle.setting_forms.proofs.settings.Statement.{statement}
+use Rattle.setting_forms.proofs.settings.Tie as tie
 
 array-read-vertical : tie.Need-array-read-vertical
 array-read-vertical c = search needs

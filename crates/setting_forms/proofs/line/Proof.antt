@@ -1,13 +1,13 @@
--- `forms::settings::line` meets its contract.
+-- `setting_forms::line` meets its contract.
 use Rattle.format.specs.Writable.{unsignedZero}
 use Rattle.format.specs.Bytes.{ascii}
 use Rattle.format.specs.Written.{afterSpaces, writtenLine}
 use Rattle.output.proofs.PutLaws.{_then_, puts-none}
-use Rattle.forms.proofs.SettingLaws.{puts-setting}
+use Rattle.setting_forms.proofs.SettingLaws.{puts-setting}
 use borrow.Author.Tests.{ne-eqb, eq-eqb}
 use borrow.Author.Needs.{needs}
-use Rattle.forms.proofs.settings.line.Statement.{statement}
-use Rattle.forms.proofs.settings.line.Tie as tie
+use Rattle.setting_forms.proofs.line.Statement.{statement}
+use Rattle.setting_forms.proofs.line.Tie as tie
 
 array-read-if1 : tie.Need-array-read-if1
 array-read-if1 c = search needs

@@ -1,12 +1,12 @@
--- `forms::settings::position` meets its contract.
+-- `setting_forms::position` meets its contract.
 use Rattle.format.specs.Bytes.{ascii}
 use Rattle.format.specs.Written.{afterSpaces, writtenPosition}
 use Rattle.output.proofs.PutLaws.{_then_, puts-none}
-use Rattle.forms.proofs.SettingLaws.{puts-setting}
+use Rattle.setting_forms.proofs.SettingLaws.{puts-setting}
 use borrow.Author.Tests.{ne-eqb, eq-eqb}
 use borrow.Author.Needs.{needs}
-use Rattle.forms.proofs.settings.position.Statement.{statement}
-use Rattle.forms.proofs.settings.position.Tie as tie
+use Rattle.setting_forms.proofs.position.Statement.{statement}
+use Rattle.setting_forms.proofs.position.Tie as tie
 
 array-read-if1 : tie.Need-array-read-if1
 array-read-if1 c = search needs
