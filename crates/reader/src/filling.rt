@@ -26,7 +26,7 @@ fn region_of(text: &[u8], name: Span, regions: &[[u64; 9]], count: usize) -> Reg
     if name.from == name.to {
         return RegionIndex::None;
     }
-    rows::find_region(text, regions, count, name)
+    lookup::find_region(text, regions, count, name)
 }
 
 fn entry(text: &[u8], cue: CueRead, regions: &[[u64; 9]], count: usize) -> CueEntry

@@ -20,7 +20,7 @@ use Rattle.format.specs.Rows.{cueRows, regionRows, styleRows}
 use Rattle.format.specs.Reading.{readingIs, counts, reading, afterReading}
 use Rattle.format.specs.Rewriting.{rewritingIs, numberOnly, refusalNumber}
 use Rattle.format.proofs.Reading.{the-type}
-use Rattle.rows.proofs.NameLaws.{take-min}
+use Rattle.lookup.proofs.NameLaws.{take-min}
 use Rattle.format.specs.declared.Reading.{Reading}
 use Rattle.format.specs.declared.Reading.the-variants as Reading
 use Rattle.format.specs.declared.Rewriting.the-variants as Rewriting

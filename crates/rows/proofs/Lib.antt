@@ -1,3 +1,2 @@
 -- Laws that the functions' proofs cite, and the law that coding and decoding are inverse.
-pub mod NameLaws
 pub mod RowLaws

@@ -1,4 +1,4 @@
-// Rows of the lent tables: coding and decoding them, and the look-up of a region by its identifier.
+// Rows of the lent tables, coded and decoded. Any row is taken.
 mod choices;
 mod words;
 
@@ -7,17 +7,9 @@ use format::regions::Region;
 use format::rows::CueDecoded;
 use format::rows::CueEntry;
 use format::rows::RegionDecoded;
-use format::rows::RegionIndex;
 use format::settings::Span;
-use values::bytes::same_bytes;
 ghost use mathlib.Core.Path.{_≡_};
-ghost use mathlib.Core.List.{map};
-ghost use Prim.Native.Nat.{_-_, _<_};
-ghost use lib.ListN.{take};
-ghost use Rattle.format.specs.Texts.{same};
-ghost use Rattle.format.specs.RegionSettings.{lastNamed};
-ghost use Rattle.format.specs.Rows.{cueWords, regionWords, styleWords, cueOfRow, regionRecord, regionOfRow, indexIs, word};
-ghost use Rattle.values.specs.Tokens.{partOf};
+ghost use Rattle.format.specs.Rows.{cueWords, regionWords, styleWords, cueOfRow, regionRecord, regionOfRow};
 
 // The row of a cue.
 pub fn cue_row(entry: CueEntry) -> [u64; 17]
@@ -136,42 +128,4 @@ pub fn region_entry(row: [u64; 9]) -> RegionDecoded
         return RegionDecoded::Bad;
     }
     RegionDecoded::Good(region_of(row))
-}
-
-// Is the identifier of a region's row this name.
-fn is_named(text: &[u8], row: [u64; 9], name: &[u8]) -> bool
-    ensures { λ r. ⌜ r ≡ same (partOf (now (text .entry)) (word 0 row) (word 1 row) .bytes) (now (name .entry)) ⌝ }
-{
-    let end = values::least(row[1] as usize, text.len());
-    let start = values::least(row[0] as usize, end);
-    same_bytes(&text[start..end], name)
-}
-
-// The last of the first `count` rows whose region has this name, a part of the text, as its identifier.
-pub fn find_region(text: &[u8], regions: &[[u64; 9]], count: usize, name: Span) -> RegionIndex
-    ensures { λ r. ⌜ r ≡ indexIs (lastNamed 0 (partOf (now (text .entry)) (name .from) (name .to) .bytes) (map (λ row. partOf (now (text .entry)) (word 0 row) (word 1 row) .bytes) (take count (now (regions .entry))))) ⌝ }
-{
-    let end = values::least(name.to, text.len());
-    let start = values::least(name.from, end);
-    let wanted = &text[start..end];
-    let rows = values::least(count, regions.len());
-    let mut k = 0;
-    while k < rows {
-        let i = from_end(rows, k);
-        let row = regions[i];
-        if is_named(text, row, wanted) {
-            return RegionIndex::At(i as u64);
-        }
-        k += 1;
-    }
-    RegionIndex::None
-}
-
-// The index of a row of `count`, counted from the last one.
-fn from_end(count: usize, k: usize) -> usize
-    requires { ⌜ k < count ⌝ }
-    ensures { λ r. ⌜ r ≡ count - 1 - k ⌝ }
-{
-    let last = count - 1;
-    last - k
 }

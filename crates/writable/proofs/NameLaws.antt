@@ -17,7 +17,7 @@ use Rattle.format.specs.declared.rows.RegionIndex.{RegionIndex}
 use Rattle.laws.proofs.Tests.{by-test}
 use Rattle.values.specs.Tokens.{partOf}
 use Rattle.values.proofs.NumberLaws.{empty-is, is-empty-not}
-use Rattle.rows.proofs.NameLaws.{take-min}
+use Rattle.lookup.proofs.NameLaws.{take-min}
 
 -- a part is the same whether or not its places are first cut to the text
 pub bytesAt-partOf : (s : List ℕ) (from to : ℕ) → bytesAt s from to ≡ partOf s from to .bytes

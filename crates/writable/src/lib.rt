@@ -161,7 +161,7 @@ fn is_last_of_its_name(text: &[u8], regions: &[[u64; 9]], index: usize) -> bool
     if part(text, name.from, name.to).len() == 0 {
         return false;
     }
-    match rows::find_region(text, regions, regions.len(), name) {
+    match lookup::find_region(text, regions, regions.len(), name) {
         RegionIndex::None => false,
         RegionIndex::At(found) => found == index as u64,
     }

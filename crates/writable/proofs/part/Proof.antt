@@ -1,6 +1,6 @@
 -- `writable::part` meets its contract.
 use mathlib.Core.Path.{sym, _∙_}
-use Rattle.rows.proofs.NameLaws.{part-bytes}
+use Rattle.lookup.proofs.NameLaws.{part-bytes}
 use Rattle.writable.proofs.NameLaws.{bytesAt-partOf}
 use borrow.Author.Needs.{needs}
 use Rattle.writable.proofs.part.Statement.{statement}

@@ -8,7 +8,7 @@ use lib.ListN.{length, getD, take}
 use borrow.Author.Needs.{needs}
 use borrow.Author.Tests.{eq-eqb, ne-eqb}
 use Rattle.format.specs.Bytes.{lf}
-use Rattle.rows.proofs.NameLaws.{take-min}
+use Rattle.lookup.proofs.NameLaws.{take-min}
 use Rattle.places.specs.Places.{lineEnds}
 use Rattle.places.proofs.PlaceLaws.{ends-next}
 use Rattle.places.proofs.lines.lines_before.Statement.{statement}

@@ -1,11 +1,11 @@
--- `rows::is_named` meets its contract.
+-- `lookup::is_named` meets its contract.
 use mathlib.Core.Path.{ap, _∙_}
 use Rattle.format.specs.Texts.{same}
 use Rattle.format.specs.Rows.{word}
-use Rattle.rows.proofs.NameLaws.{part-bytes}
+use Rattle.lookup.proofs.NameLaws.{part-bytes}
 use borrow.Author.Needs.{needs}
-use Rattle.rows.proofs.is_named.Statement.{statement}
-use Rattle.rows.proofs.is_named.Tie as tie
+use Rattle.lookup.proofs.is_named.Statement.{statement}
+use Rattle.lookup.proofs.is_named.Tie as tie
 
 array-read-least : tie.Need-array-read-least
 array-read-least c = search needs

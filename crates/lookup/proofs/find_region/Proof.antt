@@ -1,4 +1,4 @@
--- `rows::find_region` meets its contract: what is left, all rows but the last k, gives the answer of all.
+-- `lookup::find_region` meets its contract: what is left, all rows but the last k, gives the answer of all.
 use Prim.Native.Nat.{ℕ, _+_, _-_, _≤_, _<_, min}
 use mathlib.Core.Path.{_≡_, sym, ap, _∙_}
 use mathlib.Core.Bool.{cond}
@@ -9,10 +9,10 @@ use lib.ListN.{length, take, drop}
 use Rattle.format.specs.RegionSettings.{lastNamed}
 use Rattle.format.specs.Rows.{word}
 use Rattle.values.specs.Tokens.{partOf}
-use Rattle.rows.proofs.NameLaws.{part-bytes, named-before, take-min}
+use Rattle.lookup.proofs.NameLaws.{part-bytes, named-before, take-min}
 use borrow.Author.Needs.{needs}
-use Rattle.rows.proofs.find_region.Statement.{statement}
-use Rattle.rows.proofs.find_region.Tie as tie
+use Rattle.lookup.proofs.find_region.Statement.{statement}
+use Rattle.lookup.proofs.find_region.Tie as tie
 
 -- the identifier of a row
 abbrev idOf : List ℕ → List ℕ → List ℕ
