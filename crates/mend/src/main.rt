@@ -6,5 +6,5 @@ fn main() {
     let mut input = [0u8; 20481];
     let mut text = [0u8; 49152];
     let mut out = [0u8; 65536];
-    files::mend_file(STDIN_FILENO, &mut input, &mut text, &mut out);
+    file_mending::mend_file(STDIN_FILENO, &mut input, &mut text, &mut out);
 }

@@ -8,7 +8,7 @@ fn main() {
     let mut cues = [[0u64; 17]; 1024];
     let mut regions = [[0u64; 9]; 1024];
     let mut styles = [[0u64; 2]; 1024];
-    files::rewrite_file(
+    file_rewriting::rewrite_file(
         STDIN_FILENO,
         &mut raw,
         &mut text,

@@ -25,7 +25,7 @@ fn rewrite(file: i32) {
     let mut cues = [[0u64; 17]; 1024];
     let mut regions = [[0u64; 9]; 1024];
     let mut styles = [[0u64; 2]; 1024];
-    files::rewrite_file(
+    file_rewriting::rewrite_file(
         file,
         &mut raw,
         &mut text,
@@ -42,7 +42,7 @@ fn mend(file: i32) {
     let mut input = [0u8; 20481];
     let mut text = [0u8; 49152];
     let mut out = [0u8; 65536];
-    files::mend_file(file, &mut input, &mut text, &mut out);
+    file_mending::mend_file(file, &mut input, &mut text, &mut out);
 }
 
 // As `outline`.

@@ -1,0 +1,27 @@
+// An open file rewritten, and the answer printed on standard output. It is proved that any input is taken, and that it ends inside its
+// memory; what is printed is run and compared.
+use format::Rewriting;
+use libc::STDOUT_FILENO;
+use writable::part;
+
+// The written form of what an open file reads as, or the line of the refusal. More input than `raw` holds is refusal 1.
+pub fn rewrite_file(
+    file: i32,
+    raw: &mut [u8],
+    text: &mut [u8],
+    cues: &mut [[u64; 17]],
+    regions: &mut [[u64; 9]],
+    styles: &mut [[u64; 2]],
+    out: &mut [u8],
+) {
+    let n = io::read_full(file, raw);
+    if listing::refuse_more(file) {
+        return;
+    }
+    match rewriting::rewrite(&raw[..n], text, cues, regions, styles, out) {
+        Rewriting::File(length) => {
+            io::write_all(STDOUT_FILENO, part(out, 0, length));
+        }
+        Rewriting::Refused(number) => listing::refuse(number),
+    }
+}
