@@ -15,7 +15,7 @@ use Rattle.format.specs.Answers.{Answer, accepted, refused, ifAccepted, placed}
 use Rattle.format.specs.Converting.{testing}
 use Rattle.format.specs.declared.Tree.{Tree}
 use Rattle.laws.proofs.Tests.{by-test}
-use Rattle.markup.specs.Needs.{Sized}
+use Rattle.node_sizes.specs.Needs.{Sized}
 use Rattle.markup.specs.Answering.{sizedAnswer, timedAnswer, Answers}
 
 pub refuses :

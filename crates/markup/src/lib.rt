@@ -1,16 +1,13 @@
 // One cue's text read into a flat list of nodes. Any bytes and any room and table are taken, and nothing is asked of the caller.
-mod filling;
-mod measuring;
-
 use format::Plainness;
 use format::Tree;
-use measuring::Need;
+use node_sizes::measuring::Need;
 ghost use mathlib.Core.Path.{_≡_};
 ghost use Prim.Native.Nat.{_≤_};
 ghost use lib.ListN.{length};
 ghost use Rattle.format.specs.Limits.{maxText};
 ghost use Rattle.format.specs.Trees.{treeIs, treeing, treeRoom, treeTable};
-ghost use Rattle.markup.specs.Needs.{Sized};
+ghost use Rattle.node_sizes.specs.Needs.{Sized};
 ghost use Rattle.markup.specs.Answering.{sizedAnswer, timedAnswer, Answers};
 
 // The checks 2 and 6, and the nodes, of a text that has so many nodes and so many bytes in their strings.
@@ -30,7 +27,7 @@ fn read_sized(
     if nodes.len() < count {
         return Tree::TableTooShort(count);
     }
-    filling::fill(text, room, nodes);
+    node_rows::filling::fill(text, room, nodes);
     Tree::Nodes { count, used }
 }
 
@@ -39,7 +36,7 @@ fn read_plain(text: &[u8], room: &mut [u8], nodes: &mut [[u64; 7]]) -> Tree
     requires { ⌜ length (now text) ≤ maxText ⌝ }
     ensures { λ r. ⌜ Answers (timedAnswer (now (text .entry)) (length (now (room .entry))) (length (now (nodes .entry)))) (now (text .entry)) r (now (room .entry)) (now (room .exit)) (now (nodes .entry)) (now (nodes .exit)) ⌝ }
 {
-    match measuring::need_of(text) {
+    match node_sizes::measuring::need_of(text) {
         Need::Over => Tree::OverLimit,
         Need::Sizes { count, used } => read_sized(text, count, used, room, nodes),
     }

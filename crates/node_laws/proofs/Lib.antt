@@ -1,0 +1,3 @@
+-- The laws that both passes over a cue text cite.
+pub mod TreeLaws
+pub mod RoomLaws

@@ -1,0 +1,2 @@
+-- What the laws of both passes say beyond `format`.
+pub mod Sizes

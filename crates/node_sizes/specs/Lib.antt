@@ -1,0 +1,3 @@
+-- What the contracts of this crate's functions say beyond `format`.
+pub mod Needs
+pub mod Turns

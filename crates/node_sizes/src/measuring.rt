@@ -1,0 +1,174 @@
+// The first pass over a cue text: how many nodes it has and how long their strings are, or that a time is above its limit. The table of nodes
+// may be too short, so the kinds of the open nodes are kept here, on a stack in words of this pass's own.
+use nodes::tokens::Made;
+use nodes::tokens::left_kind;
+use nodes::tokens::node_of;
+use nodes::tokens::put_classes;
+use nodes::tokens::put_value;
+use stack::kinds::Stack;
+use tokenizer::Stepped;
+use tokenizer::Token;
+ghost use mathlib.Core.Path.{_≡_};
+ghost use Prim.Native.Nat.{_+_, _*_, _≤_, _<_};
+ghost use lib.ListN.{length};
+ghost use Rattle.format.specs.Limits.{maxText};
+ghost use Rattle.tokenizer.specs.Tags.{tokenIs, PartsIn};
+ghost use Rattle.nodes.specs.Tokens.{tokenClasses, tokenValue};
+ghost use Rattle.stack.specs.Kinds.{kinds, Holds};
+ghost use Rattle.node_sizes.specs.Needs.{NeedIs};
+ghost use Rattle.node_sizes.specs.Turns.{Left, Entered, Ready, TurnIs};
+
+pub enum Need {
+    // The hours of a timestamp are above their limit.
+    Over,
+    Sizes { count: usize, used: usize },
+}
+
+// What the tokens passed so far come to: the open nodes, and how many nodes and bytes of strings there are.
+struct Measured {
+    stack: Stack,
+    count: usize,
+    used: usize,
+}
+
+enum Turned {
+    // The token's time is above its limit.
+    Over,
+    On(Measured),
+}
+
+// The open nodes behind a token that names this kind to be left. An empty stack has the top 8, which no token leaves: it stays empty.
+fn leave(path: Stack, named: u64, words: &[u64]) -> Stack
+    requires { ⌜ Holds path (now words) ⌝ }
+    ensures { λ r. ⌜ Left named path (now (words .entry)) r ⌝ }
+{
+    let top = stack::kinds::top(path, words);
+    if named == top {
+        return stack::kinds::pop(path, words);
+    }
+    if named != 4 {
+        return path;
+    }
+    if top != 5 {
+        return path;
+    }
+    let below = stack::kinds::pop(path, words);
+    stack::kinds::pop(below, words)
+}
+
+// The open nodes behind a node of this kind; those below 8 have children.
+fn enter(path: Stack, kind: u64, words: &mut [u64]) -> Stack
+    requires { ⌜ Holds path (now words) × (length (kinds path (now words)) < 21 * length (now words)) ⌝ }
+    ensures { λ r. ⌜ Entered kind path (now (words .entry)) r (now (words .exit)) ⌝ }
+{
+    if 8 <= kind {
+        return path;
+    }
+    stack::kinds::push(path, kind, words)
+}
+
+// The place behind the strings of a token's node. They are put into a room of one byte, since only the place is asked for.
+fn behind_strings(text: &[u8], token: Token, kind: u64, at: usize) -> usize
+    requires { ⌜ (PartsIn (now text) 0 (length (now text)) token) × (length (now text) ≤ maxText) × (at + length (tokenClasses (tokenIs (now text) token)) ≤ maxText) ⌝ }
+    ensures { λ r. ⌜ r ≡ at + length (tokenClasses (tokenIs (now (text .entry)) token)) + length (tokenValue kind (tokenIs (now (text .entry)) token)) ⌝ }
+{
+    let mut nothing = [0u8; 1];
+    let value = put_classes(text, token, &mut nothing, at);
+    put_value(text, token, kind, &mut nothing, value)
+}
+
+// One token more.
+fn turn(text: &[u8], token: Token, m: Measured, words: &mut [u64]) -> Turned
+    requires { ⌜ Ready (now text) token m (now words) ⌝ }
+    ensures { λ r. ⌜ TurnIs (now (text .entry)) token m (now (words .entry)) r (now (words .exit)) ⌝ }
+{
+    let path = m.stack;
+    let count = m.count;
+    let used = m.used;
+    let made = node_of(text, token, stack::kinds::top(path, words));
+    match made {
+        Made::None => {
+            let named = left_kind(text, token);
+            Turned::On(Measured {
+                stack: leave(path, named, words),
+                count,
+                used,
+            })
+        }
+        Made::Over => Turned::Over,
+        Made::Node { kind, time: _ } => {
+            let behind = behind_strings(text, token, kind, used);
+            Turned::On(Measured {
+                stack: enter(path, kind, words),
+                count: count + 1,
+                used: behind,
+            })
+        }
+    }
+}
+
+// The needs of a text, with words enough for the open nodes: each takes three bytes of the text.
+fn measure(text: &[u8], words: &mut [u64]) -> Need
+    requires { ⌜ (length (now text) ≤ maxText) × (length (now text) ≤ 63 * length (now words)) ⌝ }
+    ensures { λ r. ⌜ NeedIs (now (text .entry)) r ⌝ }
+{
+    let mut at: usize = 0;
+    let mut m = Measured {
+        stack: stack::kinds::empty(),
+        count: 0,
+        used: 0,
+    };
+    loop {
+        let stepped = tokenizer::step(text, at);
+        let Stepped::Next { token, next } = stepped else {
+            return Need::Sizes {
+                count: m.count,
+                used: m.used,
+            };
+        };
+        let turned = turn(text, token, m, words);
+        let Turned::On(more) = turned else {
+            return Need::Over;
+        };
+        m = more;
+        at = next;
+    }
+}
+
+fn measure_short(text: &[u8]) -> Need
+    requires { ⌜ length (now text) ≤ 12_288 ⌝ }
+    ensures { λ r. ⌜ NeedIs (now (text .entry)) r ⌝ }
+{
+    let mut words = [0u64; 196];
+    measure(text, &mut words)
+}
+
+fn measure_middle(text: &[u8]) -> Need
+    requires { ⌜ length (now text) ≤ 786_432 ⌝ }
+    ensures { λ r. ⌜ NeedIs (now (text .entry)) r ⌝ }
+{
+    let mut words = [0u64; 12_484];
+    measure(text, &mut words)
+}
+
+fn measure_long(text: &[u8]) -> Need
+    requires { ⌜ length (now text) ≤ maxText ⌝ }
+    ensures { λ r. ⌜ NeedIs (now (text .entry)) r ⌝ }
+{
+    let mut words = [0u64; 798_916];
+    measure(text, &mut words)
+}
+
+// What reading a cue text needs. The words for the open nodes are as many as a text of about its length can fill.
+pub fn need_of(text: &[u8]) -> Need
+    requires { ⌜ length (now text) ≤ maxText ⌝ }
+    ensures { λ r. ⌜ NeedIs (now (text .entry)) r ⌝ }
+{
+    if text.len() <= 12_288 {
+        return measure_short(text);
+    }
+    if text.len() <= 786_432 {
+        return measure_middle(text);
+    }
+    measure_long(text)
+}
