@@ -3,8 +3,6 @@ use Prim.Native.Nat.{ℕ, _≤_, _<_}
 use mathlib.Core.Path.{_≡_, refl, sym, _∙_}
 use mathlib.Core.Bool.{true, false}
 use mathlib.Core.List.{List, [], _∷_}
-use native.Mathlib.Omega.{arith}
-use lib.Dec.{ltb}
 use lib.ListN.{length}
 use borrow.Author.Tests.{lt-ltb, le-ltb, ltb-true, ltb-false}
 use Rattle.format.specs.Limits.{maxText}
@@ -12,9 +10,9 @@ use Rattle.format.specs.Plain.{firstNotPlain}
 use Rattle.format.specs.CueText.{cueTokens}
 use Rattle.format.specs.Trees.{anyTimeOver, nodes, nodeStrings, nodeRows, treeIs, treeing, treeRoom, treeTable}
 use Rattle.format.specs.Answers.{Answer, accepted, refused, ifAccepted, placed}
-use Rattle.format.specs.Converting.{testing}
+use Rattle.format.specs.Converting.{plainnessIs, testing}
 use Rattle.format.specs.declared.Tree.{Tree}
-use Rattle.laws.proofs.Tests.{by-test}
+use Rattle.laws.proofs.Answers.{not-plain, all-plain}
 use Rattle.node_sizes.specs.Needs.{Sized}
 use Rattle.markup.specs.Answering.{sizedAnswer, timedAnswer, Answers}
 
@@ -95,20 +93,13 @@ module _ {s : List ℕ} {r : Tree} {room room′ : List ℕ} {table table′ : L
       × ((room′ ≡ treeRoom s room (length table)) × (table′ ≡ treeTable s (length room) table))
   all-three = (a .is, (room-is, table-is))
 
--- what the test of a text tells
+-- what the test of a text tells, as orders
 pub plain-told : (s : List ℕ) → accepted [] ≡ testing s → length s ≤ firstNotPlain s
-unfolding testing
-plain-told s e =
-    by-test (ltb (firstNotPlain s) (length s))
-    (λ y. let f : accepted [] ≡ refused 3 (firstNotPlain s ∷ []) = rw y at e in let z : _≡_ {A = ℕ} 0 1 = cc in absurd (omega arith))
-    (λ n. ltb-false (firstNotPlain s) (length s) n)
+unfolding plainnessIs
+plain-told s e = ltb-false (firstNotPlain s) (length s) (all-plain s e)
 
 pub not-plain-told : (s : List ℕ) (i : ℕ) → refused 3 (i ∷ []) ≡ testing s → (firstNotPlain s < length s) × (i ≡ firstNotPlain s)
-unfolding testing
+unfolding plainnessIs
 not-plain-told s i e =
-    by-test (ltb (firstNotPlain s) (length s))
-    (λ y.
-    let f : refused 3 (i ∷ []) ≡ refused 3 (firstNotPlain s ∷ []) = rw y at e in
-    let same : i ≡ firstNotPlain s = cc in
-    (ltb-true (firstNotPlain s) (length s) y, same))
-    (λ n. let f : refused 3 (i ∷ []) ≡ accepted [] = rw n at e in let z : _≡_ {A = ℕ} 0 1 = cc in absurd (omega arith))
+    let told = not-plain s i e in
+    (ltb-true (firstNotPlain s) (length s) (told .0), sym (told .1))
