@@ -1,6 +1,9 @@
 // An open file rewritten, and the answer printed on standard output. It is proved that any input is taken, and that it ends inside its
 // memory; what is printed is run and compared.
 use format::Rewriting;
+use format::rows::CueRow;
+use format::rows::RegionRow;
+use format::rows::StyleRow;
 use libc::STDOUT_FILENO;
 use writable::part;
 
@@ -9,9 +12,9 @@ pub fn rewrite_file(
     file: i32,
     raw: &mut [u8],
     text: &mut [u8],
-    cues: &mut [[u64; 17]],
-    regions: &mut [[u64; 9]],
-    styles: &mut [[u64; 2]],
+    cues: &mut [CueRow],
+    regions: &mut [RegionRow],
+    styles: &mut [StyleRow],
     out: &mut [u8],
 ) {
     let n = io::read_full(file, raw);

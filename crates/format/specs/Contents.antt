@@ -1,16 +1,22 @@
 -- The contents of lists: what document 01 compares, "by contents, not by places in the text".
 use Prim.Native.Nat.{ℕ}
 use mathlib.Core.List.{List, map}
-use mathlib.Core.Option.{Option}
+use mathlib.Core.Option.{Option, none, some}
+use Rattle.format.specs.Texts.{bytesAt}
 use Rattle.format.specs.RegionSettings.{RegionValues}
 use Rattle.format.specs.Lists.{Cue, Lists}
-use Rattle.format.specs.Rows.{regionFor}
+use Rattle.format.specs.Rows.{regionFor, cueEntry, regionEntry, styleEntry}
+use Rattle.format.specs.declared.settings.Span.{Span}
 use Rattle.format.specs.declared.settings.LinePlace.{LinePlace}
 use Rattle.format.specs.declared.settings.PositionPlace.{PositionPlace}
 use Rattle.format.specs.declared.settings.Direction.{Direction}
 use Rattle.format.specs.declared.settings.Align.{Align}
 use Rattle.format.specs.declared.regions.Point.{Point}
 use Rattle.format.specs.declared.regions.Scroll.{Scroll}
+use Rattle.format.specs.declared.regions.Region.{Region}
+use Rattle.format.specs.declared.rows.CueEntry.{CueEntry}
+use Rattle.format.specs.declared.rows.RegionIndex.{RegionIndex}
+use Rattle.format.specs.declared.rows.RegionIndex.the-variants as RegionIndex
 
 -- "a cue's contents are its identifier, times, text and settings (…, the region as an index in the list)"
 pub record CueContents : Type 0 where
@@ -66,3 +72,51 @@ contents l =
       regions = map regionContents (l .regions);
       styles = map (λ t. t .bytes) (l .styles);
     }
+
+-- the contents of entries, whose parts are parts of a text
+unfoldable pub optionOf : RegionIndex → Option ℕ
+optionOf RegionIndex.None = none
+optionOf (RegionIndex.At i) = some i
+
+unfoldable pub cueOfEntry : List ℕ → CueEntry → CueContents
+cueOfEntry s e =
+    record {
+      id = bytesAt s (e .id .from) (e .id .to);
+      start = e .start;
+      end = e .end;
+      text = bytesAt s (e .text .from) (e .text .to);
+      vertical = e .vertical;
+      line = e .line;
+      position = e .position;
+      size = e .size;
+      align = e .align;
+      region = optionOf (e .region);
+    }
+
+unfoldable pub regionOfEntry : List ℕ → Region → RegionContents
+regionOfEntry s r =
+    record {
+      id = bytesAt s (r .id .from) (r .id .to);
+      width = r .width;
+      lines = r .lines;
+      anchor = r .anchor;
+      viewport = r .viewport;
+      scroll = r .scroll;
+    }
+
+unfoldable pub styleOfEntry : List ℕ → Span → List ℕ
+styleOfEntry s t = bytesAt s (t .from) (t .to)
+
+-- the contents of rows over a text, and of whole tables
+abbrev pub cueOfRow : List ℕ → List ℕ → CueContents
+cueOfRow s w = cueOfEntry s (cueEntry w)
+
+abbrev pub regionOfRow : List ℕ → List ℕ → RegionContents
+regionOfRow s w = regionOfEntry s (regionEntry w)
+
+abbrev pub styleOfRow : List ℕ → List ℕ → List ℕ
+styleOfRow s w = styleOfEntry s (styleEntry w)
+
+unfoldable pub contentsOfRows : List ℕ → List (List ℕ) → List (List ℕ) → List (List ℕ) → Contents
+contentsOfRows s styles regions cues =
+    record { cues = map (cueOfRow s) cues; regions = map (regionOfRow s) regions; styles = map (styleOfRow s) styles }

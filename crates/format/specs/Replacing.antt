@@ -7,19 +7,18 @@ use mathlib.Core.Option.{Option, none, some}
 use lib.Dec.{eqb, ltb}
 use lib.ListN.{length, getD, set, take, drop}
 use Rattle.format.specs.Bytes.{lf, cr}
-use Rattle.format.specs.Texts.{Part, startsWith, isEmpty, has}
+use Rattle.format.specs.Texts.{Part, startsWith, isEmpty, has, bytesAt}
 use Rattle.format.specs.Plain.{plainText}
 use Rattle.format.specs.Lines.{split, join}
 use Rattle.format.specs.RegionSettings.{lastNamed}
 use Rattle.format.specs.Blocks.{hasSignature, behindSignature}
 use Rattle.format.specs.Lists.{Item, nothing, cue, style, region, meaning, isCue, items, lists, anyOver}
-use Rattle.format.specs.Rows.{word, ids}
-use Rattle.format.specs.Parts.{bytesAt, partPlain, cueTest1}
-use Rattle.format.specs.Contents.{CueContents, Contents, contents}
+use Rattle.format.specs.Rows.{ids, newCueEntry, newCueName}
+use Rattle.format.specs.Contents.{CueContents, Contents, contents, cueOfEntry}
 use Rattle.format.specs.Answers.{Answer, accepted, refused, ifAccepted, andThen, fileAnswer, placed}
 use Rattle.format.specs.Converting.{converting}
 use Rattle.format.specs.Reading.{reading}
-use Rattle.format.specs.Writable.{cueOfWords, firstFailing, cueTest2, cueTest3, cueTest4, cueTest5}
+use Rattle.format.specs.Writable.{firstFailing, partPlain, cueTest1, cueTests}
 use Rattle.format.specs.Written.{cueLines}
 use Rattle.format.specs.declared.Replacing.{Replacing}
 use Rattle.format.specs.declared.Replacing.the-variants as Replacing
@@ -99,10 +98,9 @@ ownStart raw number = rawStart raw (firstLine (plainText raw) number)
 unfoldable pub ownEnd : List ℕ → ℕ → ℕ
 ownEnd raw number = rawEnd raw (lastLine (plainText raw) number)
 
--- the new cue as it is lent: a row over a text lent with it, whose words 0 to 15 mean what they mean in a cue's row, and whose words 16 and 17
--- are the region's name, a part of that text
+-- the region's name that is lent with the new cue, a row over a text
 unfoldable pub nameLent : List ℕ → List ℕ → List ℕ
-nameLent t w = bytesAt t (word 16 w) (word 17 w)
+nameLent t w = bytesAt t (newCueName w .from) (newCueName w .to)
 
 -- "its region the file's last with the name lent, or none where that name is empty"
 unfoldable pub regionAsked : List (List ℕ) → List ℕ → Option ℕ
@@ -125,11 +123,11 @@ withRegion r c =
 
 -- the cue asked for, in a file whose regions have these names
 unfoldable pub cueAsked : List ℕ → List ℕ → List (List ℕ) → CueContents
-cueAsked t w names = withRegion (regionAsked names (nameLent t w)) (cueOfWords t w)
+cueAsked t w names = withRegion (regionAsked names (nameLent t w)) (cueOfEntry t (newCueEntry w))
 
 -- the tests of "writable" on it: "each part", the region's name too; "one not in the file fails test 6"
 unfoldable pub newTest1 : List ℕ → List ℕ → Bool
-newTest1 t w = cueTest1 t w && partPlain t (word 16 w) (word 17 w)
+newTest1 t w = cueTest1 t w && partPlain t (newCueName w .from) (newCueName w .to)
 
 unfoldable pub isThere : Option ℕ → Bool
 isThere none = false
@@ -139,8 +137,7 @@ unfoldable pub newTest6 : List ℕ → List ℕ → List (List ℕ) → Bool
 newTest6 t w names = isEmpty (nameLent t w) || isThere (lastNamed 0 (nameLent t w) names)
 
 unfoldable pub newCueFails : List ℕ → List ℕ → List (List ℕ) → Option ℕ
-newCueFails t w names =
-    firstFailing 1 (newTest1 t w ∷ cueTest2 t w ∷ cueTest3 t w ∷ cueTest4 w ∷ cueTest5 w ∷ newTest6 t w names ∷ [])
+newCueFails t w names = firstFailing 1 (newTest1 t w ∷ cueTests (cueOfEntry t (newCueEntry w)) ++ newTest6 t w names ∷ [])
 
 -- the names of a file's regions
 unfoldable pub regionNames : List ℕ → List (List ℕ)
@@ -160,7 +157,7 @@ unfoldable pub lineBefore : List ℕ → ℕ → List ℕ
 lineBefore s number = getD (split s) (firstLine s number - 1) []
 
 unfoldable pub noGap : List ℕ → ℕ → List ℕ → List ℕ → Bool
-noGap s number t w = not (isEmpty (bytesAt t (word 0 w) (word 1 w))) && not (isEmpty (lineBefore s number))
+noGap s number t w = not (isEmpty (cueOfEntry t (newCueEntry w) .id)) && not (isEmpty (lineBefore s number))
 
 -- the number and the values of each case; a new cue that is not writable is of list 2, with the cue number as its index
 unfoldable pub replacingIs : Replacing → Answer

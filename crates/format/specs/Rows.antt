@@ -1,5 +1,5 @@
--- The rows of the lent tables: what each word of a row means, in one place, and what a row of any words says. Percentages and line numbers
--- are in millionths, times in milliseconds, parts are from a place up to another.
+-- The rows of the lent tables: one coding and one decoding of each. No other definition knows a word by its number. Percentages and line
+-- numbers are in millionths, times in milliseconds, parts are from a place up to another.
 use Prim.Native.Nat.{ℕ, suc, _-_, min}
 use mathlib.Core.Bool.{Bool, true, false, cond, _&&_}
 use mathlib.Core.List.{List, [], _∷_, map}
@@ -29,10 +29,6 @@ use Rattle.format.specs.declared.regions.Region.{Region}
 use Rattle.format.specs.declared.rows.RegionIndex.{RegionIndex}
 use Rattle.format.specs.declared.rows.RegionIndex.the-variants as RegionIndex
 use Rattle.format.specs.declared.rows.CueEntry.{CueEntry}
-use Rattle.format.specs.declared.rows.CueDecoded.{CueDecoded}
-use Rattle.format.specs.declared.rows.CueDecoded.the-variants as CueDecoded
-use Rattle.format.specs.declared.rows.RegionDecoded.{RegionDecoded}
-use Rattle.format.specs.declared.rows.RegionDecoded.the-variants as RegionDecoded
 
 -- the coded choices, each as a word
 abbrev pub directionWord : Direction → ℕ
@@ -94,9 +90,9 @@ abbrev pub scrollWord : Scroll → ℕ
 scrollWord Scroll.None = 0
 scrollWord Scroll.Up = 1
 
--- the row of a cue
-abbrev pub cueWords : CueEntry → List ℕ
-cueWords e =
+-- the row of a cue, its words after the alignment being these
+abbrev pub cueWordsWith : List ℕ → CueEntry → List ℕ
+cueWordsWith others e =
     e .id .from
     ∷ e .id .to
     ∷ e .start
@@ -113,8 +109,15 @@ cueWords e =
     ∷ positionAlignWord (e .position .align)
     ∷ e .size
     ∷ alignWord (e .align)
-    ∷ regionWord (e .region)
-    ∷ []
+    ∷ others
+
+-- the row of a cue
+abbrev pub cueWords : CueEntry → List ℕ
+cueWords e = cueWordsWith (regionWord (e .region) ∷ []) e
+
+-- the row of a new cue, which is lent for a replacement: with the name of its region, a part of the text lent with it, for the region's index
+abbrev pub newCueWords : CueEntry → Span → List ℕ
+newCueWords e name = cueWordsWith (name .from ∷ name .to ∷ []) e
 
 -- the row of a region
 abbrev pub regionWords : Region → List ℕ
@@ -153,8 +156,9 @@ regionCodesNamed w = ltb (word 8 w) 2
 abbrev pub directionOf : ℕ → Direction
 directionOf n = cond (eqb n 0) Direction.Horizontal (cond (eqb n 1) Direction.Rl Direction.Lr)
 
+-- "Minus zero is 0."
 abbrev pub lineOf : ℕ → ℕ → Line
-lineOf n number = cond (eqb n 0) Line.Auto (Line.At (eqb n 2) number)
+lineOf n number = cond (eqb n 0) Line.Auto (Line.At (eqb n 2 && ltb 0 number) number)
 
 abbrev pub lineAlignOf : ℕ → LineAlign
 lineAlignOf n = cond (eqb n 0) LineAlign.Start (cond (eqb n 1) LineAlign.Center LineAlign.End)
@@ -178,12 +182,10 @@ regionIndexOf n = cond (eqb n 0) RegionIndex.None (RegionIndex.At (n - 1))
 abbrev pub scrollOf : ℕ → Scroll
 scrollOf n = cond (eqb n 0) Scroll.None Scroll.Up
 
--- what a cue's row says
-unfoldable pub cueOfRow : List ℕ → CueDecoded
-cueOfRow w =
-    cond (cueCodesNamed w)
-    (CueDecoded.Good
-    (record {
+-- what a cue's row says, but that its region is this one
+abbrev pub cueEntryWith : RegionIndex → List ℕ → CueEntry
+cueEntryWith region w =
+    record {
       id = record { from = word 0 w; to = word 1 w };
       start = word 2 w;
       end = word 3 w;
@@ -193,13 +195,23 @@ cueOfRow w =
       position = record { position = positionOf (word 11 w) (word 12 w); align = positionAlignOf (word 13 w) };
       size = word 14 w;
       align = alignOf (word 15 w);
-      region = regionIndexOf (word 16 w);
-    }))
-    CueDecoded.Bad
+      region = region;
+    }
 
--- a region's row as a record, and what the row says
-abbrev pub regionRecord : List ℕ → Region
-regionRecord w =
+-- what a cue's row says
+abbrev pub cueEntry : List ℕ → CueEntry
+cueEntry w = cueEntryWith (regionIndexOf (word 16 w)) w
+
+-- what a new cue's row says: the cue, with no region, and the region's name
+abbrev pub newCueEntry : List ℕ → CueEntry
+newCueEntry w = cueEntryWith RegionIndex.None w
+
+abbrev pub newCueName : List ℕ → Span
+newCueName w = record { from = word 16 w; to = word 17 w }
+
+-- what a region's row says
+abbrev pub regionEntry : List ℕ → Region
+regionEntry w =
     record {
       id = record { from = word 0 w; to = word 1 w };
       width = word 2 w;
@@ -209,8 +221,9 @@ regionRecord w =
       scroll = scrollOf (word 8 w);
     }
 
-unfoldable pub regionOfRow : List ℕ → RegionDecoded
-regionOfRow w = cond (regionCodesNamed w) (RegionDecoded.Good (regionRecord w)) RegionDecoded.Bad
+-- what a style's row says
+abbrev pub styleEntry : List ℕ → Span
+styleEntry w = record { from = word 0 w; to = word 1 w }
 
 -- the regions' identifiers, in their order
 unfoldable pub ids : List RegionValues → List (List ℕ)

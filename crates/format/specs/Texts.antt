@@ -1,8 +1,9 @@
 -- Texts taken apart and compared: first and last bytes, runs of bytes, what stands before and after a byte.
-use Prim.Native.Nat.{ℕ}
+use Prim.Native.Nat.{ℕ, _-_}
 use mathlib.Core.Bool.{Bool, true, false, cond, not, _&&_}
 use mathlib.Core.List.{List, [], _∷_}
 use lib.Dec.{eqb}
+use lib.ListN.{take, drop}
 
 -- does the text begin with these bytes
 unfoldable pub startsWith : List ℕ → List ℕ → Bool
@@ -56,6 +57,10 @@ behindFirst c (b ∷ s) = cond (eqb b c) s (behindFirst c s)
 
 unfoldable pub has : ℕ → List ℕ → Bool
 has c s = not (all (λ b. not (eqb b c)) s)
+
+-- the bytes of a text from one place up to another
+unfoldable pub bytesAt : List ℕ → ℕ → ℕ → List ℕ
+bytesAt s from to = take (to - from) (drop from s)
 
 -- document 01's "part": bytes of a text, with the place where they stand in it
 pub record Part : Type 0 where

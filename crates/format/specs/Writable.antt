@@ -1,72 +1,41 @@
--- Document 01, "writable": the tests of a cue, a region and a style, in its order, on rows that anyone may have written; and the contents
--- that rows have.
+-- Document 01, "writable": the tests of a cue, a region and a style, in its order, on what rows say that anyone may have written.
 use Prim.Native.Nat.{ℕ, suc, _+_, _*_}
 use mathlib.Core.Bool.{Bool, true, false, cond, not, _&&_, _||_}
-use mathlib.Core.List.{List, [], _∷_, map}
+use mathlib.Core.List.{List, [], _∷_, _++_, map}
 use mathlib.Core.Option.{Option, none, some}
 use lib.Dec.{eqb, leb, ltb}
 use lib.ListN.{length, getD}
 use Rattle.format.specs.Bytes.{lf, white}
 use Rattle.format.specs.Limits.{maxHours, maxLine}
-use Rattle.format.specs.Texts.{isEmpty, has, all}
+use Rattle.format.specs.Texts.{isEmpty, has, all, bytesAt}
+use Rattle.format.specs.Plain.{firstNotPlain}
 use Rattle.format.specs.Lines.{split}
 use Rattle.format.specs.RegionSettings.{lastNamed}
 use Rattle.format.specs.Blocks.{holdsArrow}
-use Rattle.format.specs.Rows.{word, regionCodesNamed, directionOf, lineOf, lineAlignOf, positionOf, positionAlignOf, alignOf, regionIndexOf, scrollOf}
-use Rattle.format.specs.Parts.{bytesAt, partPlain, cueTest1}
-use Rattle.format.specs.Contents.{CueContents, RegionContents, Contents}
+use Rattle.format.specs.Rows.{cueCodesNamed, regionCodesNamed, cueEntry, regionEntry, styleEntry}
+use Rattle.format.specs.Contents.{CueContents, RegionContents, cueOfRow, regionOfRow, styleOfRow}
+use Rattle.format.specs.declared.settings.Span.{Span}
 use Rattle.format.specs.declared.settings.Line.{Line}
 use Rattle.format.specs.declared.settings.Line.the-variants as Line
-use Rattle.format.specs.declared.rows.RegionIndex.{RegionIndex}
-use Rattle.format.specs.declared.rows.RegionIndex.the-variants as RegionIndex
-
--- "Minus zero is 0."
-unfoldable pub unsignedZero : Line → Line
-unsignedZero Line.Auto = Line.Auto
-unsignedZero (Line.At negative n) = Line.At (negative && ltb 0 n) n
-
-unfoldable pub optionOf : RegionIndex → Option ℕ
-optionOf RegionIndex.None = none
-optionOf (RegionIndex.At i) = some i
-
--- the contents of rows over a text
-unfoldable pub cueOfWords : List ℕ → List ℕ → CueContents
-cueOfWords s w =
-    record {
-      id = bytesAt s (word 0 w) (word 1 w);
-      start = word 2 w;
-      end = word 3 w;
-      text = bytesAt s (word 4 w) (word 5 w);
-      vertical = directionOf (word 6 w);
-      line = record { line = unsignedZero (lineOf (word 7 w) (word 8 w)); snap = eqb (word 9 w) 0; align = lineAlignOf (word 10 w) };
-      position = record { position = positionOf (word 11 w) (word 12 w); align = positionAlignOf (word 13 w) };
-      size = word 14 w;
-      align = alignOf (word 15 w);
-      region = optionOf (regionIndexOf (word 16 w));
-    }
-
-unfoldable pub regionOfWords : List ℕ → List ℕ → RegionContents
-regionOfWords s w =
-    record {
-      id = bytesAt s (word 0 w) (word 1 w);
-      width = word 2 w;
-      lines = word 3 w;
-      anchor = record { x = word 4 w; y = word 5 w };
-      viewport = record { x = word 6 w; y = word 7 w };
-      scroll = scrollOf (word 8 w);
-    }
-
-unfoldable pub styleOfWords : List ℕ → List ℕ → List ℕ
-styleOfWords s w = bytesAt s (word 0 w) (word 1 w)
-
-unfoldable pub contentsOfRows : List ℕ → List (List ℕ) → List (List ℕ) → List (List ℕ) → Contents
-contentsOfRows s styles regions cues =
-    record { cues = map (cueOfWords s) cues; regions = map (regionOfWords s) regions; styles = map (styleOfWords s) styles }
+use Rattle.format.specs.declared.settings.LinePlace.{LinePlace}
+use Rattle.format.specs.declared.settings.LineAlign.{LineAlign}
+use Rattle.format.specs.declared.settings.LineAlign.the-variants as LineAlign
+use Rattle.format.specs.declared.settings.Position.{Position}
+use Rattle.format.specs.declared.settings.Position.the-variants as Position
+use Rattle.format.specs.declared.settings.PositionPlace.{PositionPlace}
+use Rattle.format.specs.declared.settings.PositionAlign.{PositionAlign}
+use Rattle.format.specs.declared.settings.PositionAlign.the-variants as PositionAlign
+use Rattle.format.specs.declared.regions.Point.{Point}
 
 -- the first test that fails, counted from 1
 unfoldable pub firstFailing : ℕ → List Bool → Option ℕ
 firstFailing n [] = none
 firstFailing n (t ∷ ts) = cond t (firstFailing (n + 1) ts) (some n)
+
+-- "each part is inside the text and is itself plain, so cuts no character"
+unfoldable pub partPlain : List ℕ → ℕ → ℕ → Bool
+partPlain s from to =
+    leb from to && (leb to (length s) && not (ltb (firstNotPlain (bytesAt s from to)) (length (bytesAt s from to))))
 
 -- "has no empty line (none at its start or end), and no `-->`"
 unfoldable pub noneEmpty : List (List ℕ) → Bool
@@ -76,33 +45,56 @@ noneEmpty (l ∷ ls) = not (isEmpty l) && noneEmpty ls
 unfoldable pub unbroken : List ℕ → Bool
 unbroken text = noneEmpty (split text) && not (holdsArrow text)
 
--- a cue's tests. (2): "the identifier has no LF and no `-->`"
-unfoldable pub cueTest2 : List ℕ → List ℕ → Bool
-cueTest2 s w = not (has lf (bytesAt s (word 0 w) (word 1 w))) && not (holdsArrow (bytesAt s (word 0 w) (word 1 w)))
+-- a cue's tests. (1): both parts, "and each coded choice is one of those named"
+unfoldable pub cueTest1 : List ℕ → List ℕ → Bool
+cueTest1 s w =
+    partPlain s (cueEntry w .id .from) (cueEntry w .id .to)
+    && (partPlain s (cueEntry w .text .from) (cueEntry w .text .to) && cueCodesNamed w)
+
+-- (2): "the identifier has no LF and no `-->`"
+unfoldable pub cueTest2 : List ℕ → Bool
+cueTest2 id = not (has lf id) && not (holdsArrow id)
 
 -- (3): "the cue text is empty or has no empty line …, and no `-->`"
-unfoldable pub cueTest3 : List ℕ → List ℕ → Bool
-cueTest3 s w = isEmpty (bytesAt s (word 4 w) (word 5 w)) || unbroken (bytesAt s (word 4 w) (word 5 w))
+unfoldable pub cueTest3 : List ℕ → Bool
+cueTest3 text = isEmpty text || unbroken text
 
 -- (4): "times are within the limit, end after start"
-unfoldable pub cueTest4 : List ℕ → Bool
-cueTest4 w = ltb (word 2 w) (word 3 w) && ltb (word 3 w) (3_600_000 * suc maxHours)
+unfoldable pub cueTest4 : ℕ → ℕ → Bool
+cueTest4 start end = ltb start end && ltb end (3_600_000 * suc maxHours)
 
 -- (5): "a non-auto line or position where its alignment differs from its opening value, percentages in 0 to 100, snap on where line is auto,
 -- line number within limit"; it looks at no number where the value is auto, and a line is a percentage exactly where snap is off
-unfoldable pub is100 : ℕ → Bool
-is100 n = leb n 100_000_000
+unfoldable pub atMost100 : ℕ → Bool
+atMost100 n = leb n 100_000_000
 
-unfoldable pub lineFits : List ℕ → Bool
-lineFits w =
-    cond (eqb (word 7 w) 0) (eqb (word 10 w) 0 && eqb (word 9 w) 0)
-    (cond (eqb (word 9 w) 0) (leb (word 8 w) (maxLine * 1_000_000)) (is100 (word 8 w) && (eqb (word 7 w) 1 || eqb (word 8 w) 0)))
+abbrev pub isStart : LineAlign → Bool
+isStart LineAlign.Start = true
+isStart LineAlign.Center = false
+isStart LineAlign.End = false
 
-unfoldable pub positionFits : List ℕ → Bool
-positionFits w = cond (eqb (word 11 w) 0) (eqb (word 13 w) 0) (is100 (word 12 w))
+unfoldable pub lineFits : LinePlace → Bool
+lineFits p = go (p .line)
+  where
+    go : Line → Bool
+    go Line.Auto = isStart (p .align) && p .snap
+    go (Line.At negative n) = cond (p .snap) (leb n (maxLine * 1_000_000)) (atMost100 n && not negative)
 
-unfoldable pub cueTest5 : List ℕ → Bool
-cueTest5 w = lineFits w && (positionFits w && is100 (word 14 w))
+abbrev pub isAuto : PositionAlign → Bool
+isAuto PositionAlign.Auto = true
+isAuto PositionAlign.LineLeft = false
+isAuto PositionAlign.Center = false
+isAuto PositionAlign.LineRight = false
+
+unfoldable pub positionFits : PositionPlace → Bool
+positionFits p = go (p .position)
+  where
+    go : Position → Bool
+    go Position.Auto = isAuto (p .align)
+    go (Position.At n) = atMost100 n
+
+unfoldable pub cueTest5 : LinePlace → PositionPlace → ℕ → Bool
+cueTest5 line position size = lineFits line && (positionFits position && atMost100 size)
 
 -- (6): "its region, if any, is in the list, has a non-empty identifier and is the last with it"
 unfoldable pub isIndex : Option ℕ → ℕ → Bool
@@ -113,43 +105,47 @@ unfoldable pub lastOfItsName : List (List ℕ) → ℕ → Bool
 lastOfItsName names i =
     ltb i (length names) && (not (isEmpty (getD names i [])) && isIndex (lastNamed 0 (getD names i []) names) i)
 
-unfoldable pub regionAllowed : List (List ℕ) → Option ℕ → Bool
-regionAllowed names none = true
-regionAllowed names (some i) = lastOfItsName names i
+unfoldable pub cueTest6 : List (List ℕ) → Option ℕ → Bool
+cueTest6 names none = true
+cueTest6 names (some i) = lastOfItsName names i
 
-unfoldable pub cueTest6 : List ℕ → List (List ℕ) → List ℕ → Bool
-cueTest6 s regions w =
-    regionAllowed (map (λ r. bytesAt s (word 0 r) (word 1 r)) regions) (optionOf (regionIndexOf (word 16 w)))
+-- the tests 2 to 5, which look at what a cue says alone
+unfoldable pub cueTests : CueContents → List Bool
+cueTests c = cueTest2 (c .id) ∷ cueTest3 (c .text) ∷ cueTest4 (c .start) (c .end) ∷ cueTest5 (c .line) (c .position) (c .size) ∷ []
+
+-- the identifiers of a table of regions over a text
+abbrev pub namesOf : List ℕ → List (List ℕ) → List (List ℕ)
+namesOf s regions = map (λ r. regionOfRow s r .id) regions
 
 unfoldable pub cueFails : List ℕ → List (List ℕ) → List ℕ → Option ℕ
 cueFails s regions w =
     firstFailing 1
-    (cueTest1 s w ∷ cueTest2 s w ∷ cueTest3 s w ∷ cueTest4 w ∷ cueTest5 w ∷ cueTest6 s regions w ∷ [])
+    (cueTest1 s w ∷ cueTests (cueOfRow s w) ++ cueTest6 (namesOf s regions) (cueOfRow s w .region) ∷ [])
 
 -- a region's tests: "(1) as for a cue, (2) its identifier has no ASCII whitespace and no `-->`, (3) its percentages lie in 0 to 100, (4) its
 -- lines count is within limit"
 unfoldable pub regionTest1 : List ℕ → List ℕ → Bool
-regionTest1 s w = partPlain s (word 0 w) (word 1 w) && regionCodesNamed w
+regionTest1 s w = partPlain s (regionEntry w .id .from) (regionEntry w .id .to) && regionCodesNamed w
 
-unfoldable pub regionTest2 : List ℕ → List ℕ → Bool
-regionTest2 s w =
-    all (λ b. not (white b)) (bytesAt s (word 0 w) (word 1 w)) && not (holdsArrow (bytesAt s (word 0 w) (word 1 w)))
+unfoldable pub regionTest2 : List ℕ → Bool
+regionTest2 id = all (λ b. not (white b)) id && not (holdsArrow id)
 
-unfoldable pub regionTest3 : List ℕ → Bool
-regionTest3 w = is100 (word 2 w) && (is100 (word 4 w) && (is100 (word 5 w) && (is100 (word 6 w) && is100 (word 7 w))))
+unfoldable pub regionTest3 : ℕ → Point → Point → Bool
+regionTest3 width anchor viewport =
+    atMost100 width && (atMost100 (anchor .x) && (atMost100 (anchor .y) && (atMost100 (viewport .x) && atMost100 (viewport .y))))
 
-unfoldable pub regionTest4 : List ℕ → Bool
-regionTest4 w = leb (word 3 w) maxLine
+unfoldable pub regionTest4 : ℕ → Bool
+regionTest4 lines = leb lines maxLine
+
+unfoldable pub regionTests : RegionContents → List Bool
+regionTests r = regionTest2 (r .id) ∷ regionTest3 (r .width) (r .anchor) (r .viewport) ∷ regionTest4 (r .lines) ∷ []
 
 unfoldable pub regionFails : List ℕ → List ℕ → Option ℕ
-regionFails s w = firstFailing 1 (regionTest1 s w ∷ regionTest2 s w ∷ regionTest3 w ∷ regionTest4 w ∷ [])
+regionFails s w = firstFailing 1 (regionTest1 s w ∷ regionTests (regionOfRow s w))
 
 -- a style's tests: "(1) as for a cue, (2) it is non-empty, has no empty line and no `-->`"
-unfoldable pub styleTest1 : List ℕ → List ℕ → Bool
-styleTest1 s w = partPlain s (word 0 w) (word 1 w)
-
-unfoldable pub styleTest2 : List ℕ → List ℕ → Bool
-styleTest2 s w = unbroken (bytesAt s (word 0 w) (word 1 w))
+unfoldable pub styleTest1 : List ℕ → Span → Bool
+styleTest1 s t = partPlain s (t .from) (t .to)
 
 unfoldable pub styleFails : List ℕ → List ℕ → Option ℕ
-styleFails s w = firstFailing 1 (styleTest1 s w ∷ styleTest2 s w ∷ [])
+styleFails s w = firstFailing 1 (styleTest1 s (styleEntry w) ∷ unbroken (styleOfRow s w) ∷ [])

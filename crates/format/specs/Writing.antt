@@ -7,7 +7,8 @@ use lib.Dec.{ltb}
 use lib.ListN.{length}
 use Rattle.format.specs.Limits.{maxFile}
 use Rattle.format.specs.Answers.{Answer, accepted, refused, ifAccepted, fileAnswer, placed}
-use Rattle.format.specs.Writable.{contentsOfRows, cueFails, regionFails, styleFails}
+use Rattle.format.specs.Writable.{cueFails, regionFails, styleFails}
+use Rattle.format.specs.Contents.{contentsOfRows}
 use Rattle.format.specs.Written.{written}
 use Rattle.format.specs.declared.Writing.{Writing}
 use Rattle.format.specs.declared.Writing.the-variants as Writing

@@ -1,5 +1,5 @@
-// The entries of the lent tables, and how many words a row of each table has. The meaning of each word is in specs/Rows.antt.
-use super::regions::Region;
+// The rows of the lent tables: how many words a row of each table has, the name of each word, and the entries that rows are decoded to. What
+// the words mean is in specs/Rows.antt; the crate `rows` alone reads and makes rows word by word.
 use super::settings::Align;
 use super::settings::Direction;
 use super::settings::LinePlace;
@@ -8,9 +8,84 @@ use super::settings::Span;
 
 pub const CUE_WORDS: usize = 17;
 
+pub type CueRow = [u64; CUE_WORDS];
+
+pub const CUE_ID_FROM: usize = 0;
+
+pub const CUE_ID_TO: usize = 1;
+
+// In milliseconds, as the end.
+pub const CUE_START: usize = 2;
+
+pub const CUE_END: usize = 3;
+
+pub const CUE_TEXT_FROM: usize = 4;
+
+pub const CUE_TEXT_TO: usize = 5;
+
+pub const CUE_VERTICAL: usize = 6;
+
+// Auto, from 0 on, or below 0; and the number in millionths.
+pub const CUE_LINE: usize = 7;
+
+pub const CUE_LINE_NUMBER: usize = 8;
+
+pub const CUE_SNAP: usize = 9;
+
+pub const CUE_LINE_ALIGN: usize = 10;
+
+// Auto or not; and the percentage in millionths.
+pub const CUE_POSITION: usize = 11;
+
+pub const CUE_POSITION_NUMBER: usize = 12;
+
+pub const CUE_POSITION_ALIGN: usize = 13;
+
+pub const CUE_SIZE: usize = 14;
+
+pub const CUE_ALIGN: usize = 15;
+
+// 0 for none, else the region's index and one.
+pub const CUE_REGION: usize = 16;
+
+// The new cue of a replacement: the words of a cue's row before its region, and then the region's name, a part of the text lent with it.
+pub const NEW_CUE_WORDS: usize = 18;
+
+pub type NewCueRow = [u64; NEW_CUE_WORDS];
+
+pub const NEW_CUE_NAME_FROM: usize = 16;
+
+pub const NEW_CUE_NAME_TO: usize = 17;
+
 pub const REGION_WORDS: usize = 9;
 
+pub type RegionRow = [u64; REGION_WORDS];
+
+pub const REGION_ID_FROM: usize = 0;
+
+pub const REGION_ID_TO: usize = 1;
+
+pub const REGION_WIDTH: usize = 2;
+
+pub const REGION_LINES: usize = 3;
+
+pub const REGION_ANCHOR_X: usize = 4;
+
+pub const REGION_ANCHOR_Y: usize = 5;
+
+pub const REGION_VIEWPORT_X: usize = 6;
+
+pub const REGION_VIEWPORT_Y: usize = 7;
+
+pub const REGION_SCROLL: usize = 8;
+
 pub const STYLE_WORDS: usize = 2;
+
+pub type StyleRow = [u64; STYLE_WORDS];
+
+pub const STYLE_FROM: usize = 0;
+
+pub const STYLE_TO: usize = 1;
 
 // A cue's region: its index in the list of regions.
 pub enum RegionIndex {
@@ -30,15 +105,4 @@ pub struct CueEntry {
     pub size: u64,
     pub align: Align,
     pub region: RegionIndex,
-}
-
-// What a row says: nothing where one of its codes names no choice.
-pub enum CueDecoded {
-    Bad,
-    Good(CueEntry),
-}
-
-pub enum RegionDecoded {
-    Bad,
-    Good(Region),
 }

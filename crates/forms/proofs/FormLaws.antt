@@ -1,24 +1,25 @@
 -- Laws of the written forms: lines one behind another, a setting on a line of its own, a cue among its regions, and a region.
-use Prim.Native.Nat.{ℕ, _-_}
+use Prim.Native.Nat.{ℕ}
 use mathlib.Core.Path.{_≡_, refl, sym, ap, _∙_}
 use mathlib.Core.Bool.{cond}
 use mathlib.Core.List.{List, [], _∷_, _++_, map, append-assoc, append-nil}
 use mathlib.Core.Option.{none, some}
 use lib.ListN.{getD}
-use borrow.Author.Tests.{ne-eqb}
+use Rattle.format.specs.Contents.{optionOf, cueOfEntry, regionOfEntry, regionOfRow}
 use Rattle.format.specs.Bytes.{ascii, lf, colon}
-use Rattle.format.specs.Texts.{isEmpty}
+use Rattle.format.specs.Texts.{isEmpty, bytesAt}
 use Rattle.format.specs.Lines.{split, endedLines, join}
-use Rattle.format.specs.Rows.{word}
-use Rattle.format.specs.Parts.{bytesAt}
-use Rattle.format.specs.Writable.{optionOf, cueOfWords, regionOfWords}
+use Rattle.format.specs.Writable.{namesOf}
 use Rattle.format.specs.Written.{setting, writtenRegionName, writtenSettings, writtenTiming, linesOf, cueLines, writtenId, regionLines}
 use Rattle.format.specs.declared.regions.Region.{Region}
+use Rattle.format.specs.declared.rows.CueEntry.{CueEntry}
+use Rattle.format.specs.declared.rows.RegionIndex.{RegionIndex}
+use Rattle.format.specs.declared.rows.RegionIndex.the-variants as RegionIndex
 use Rattle.laws.proofs.Lines.{splits}
 use Rattle.laws.proofs.Standing.{ended-append}
 use Rattle.roundtrip.proofs.Cues.{names-of}
 use Rattle.setting_forms.specs.Settings.{namedRegion, settingsForm}
-use Rattle.forms.specs.Forms.{timingForm, cueForm, recordContents, numberLines}
+use Rattle.forms.specs.Forms.{timingForm, cueForm, numberLines}
 
 -- the lines of a text, and lines behind them
 pub ended-split : (s : List ℕ) → endedLines (split s) ≡ lf ∷ s
@@ -50,18 +51,18 @@ pub join-cue :
 unfolding join
 join-cue id timing text = rw (append-assoc, ← ended-text text) (join-id id timing (linesOf text))
 
--- a cue's row among regions' rows, by the word that names its region
-module _ (s : List ℕ) (regions : List (List ℕ)) (w : List ℕ) where
-  pub cue-alone : word 16 w ≡ 0 → join (cueLines (map (regionOfWords s) regions) (cueOfWords s w)) ≡ cueForm s w none
-  unfolding cueLines cueOfWords cueForm timingForm settingsForm namedRegion writtenTiming writtenSettings writtenRegionName optionOf
-  cue-alone e = rw e
+-- a cue among regions' rows, by the region that it asks for
+module _ (s : List ℕ) (regions : List (List ℕ)) (e : CueEntry) where
+  abbrev lines : List ℕ
+  lines = join (cueLines (map (regionOfRow s) regions) (cueOfEntry s e))
 
-  pub cue-regional :
-      (word 16 w ≡ 0 → ⊥)
-      → join (cueLines (map (regionOfWords s) regions) (cueOfWords s w))
-      ≡ cueForm s w (some (getD (map (λ r. bytesAt s (word 0 r) (word 1 r)) regions) (word 16 w - 1) []))
-  unfolding cueLines cueOfWords cueForm timingForm settingsForm namedRegion writtenTiming writtenSettings writtenRegionName optionOf
-  cue-regional n = rw (ne-eqb (word 16 w) 0 n, names-of s regions)
+  pub cue-alone : e .region ≡ RegionIndex.None → lines ≡ cueForm s e none
+  unfolding cueLines cueOfEntry cueForm timingForm settingsForm namedRegion writtenTiming writtenSettings writtenRegionName optionOf
+  cue-alone k = rw k
+
+  pub cue-regional : (i : ℕ) → e .region ≡ RegionIndex.At i → lines ≡ cueForm s e (some (getD (namesOf s regions) i []))
+  unfolding cueLines cueOfEntry cueForm timingForm settingsForm namedRegion writtenTiming writtenSettings writtenRegionName optionOf
+  cue-regional i k = rw (k, names-of s regions)
 
 -- a setting on a line of its own
 pub ended-setting : (name value : List ℕ) → endedLines (setting name value) ≡ (lf ∷ (name ++ colon ∷ [])) ++ value
@@ -74,7 +75,7 @@ behind-id a b c d e f = simp (ended-append, append-assoc)
 
 pub join-region :
     (s : List ℕ) (r : Region)
-    → join (regionLines (recordContents s r))
+    → join (regionLines (regionOfEntry s r))
     ≡ (ascii "REGION" ++ endedLines (writtenId (bytesAt s (r .id .from) (r .id .to)))) ++ endedLines (numberLines r)
-unfolding join regionLines recordContents numberLines
+unfolding join regionLines regionOfEntry numberLines
 join-region s r = ap (λ x. ascii "REGION" ++ x) (behind-id _ _ _ _ _ _)

@@ -2,6 +2,10 @@
 use format::regions::Point;
 use format::regions::Region;
 use format::regions::Scroll;
+use format::rows::CueRow;
+use format::rows::RegionIndex;
+use format::rows::RegionRow;
+use format::rows::StyleRow;
 use output::byte;
 use output::bytes;
 use output::number;
@@ -15,13 +19,13 @@ ghost use lib.ListN.{getD};
 ghost use Rattle.format.specs.Bytes.{lf};
 ghost use Rattle.format.specs.Texts.{isEmpty};
 ghost use Rattle.format.specs.Lines.{endedLines, join};
-ghost use Rattle.format.specs.Rows.{word};
-ghost use Rattle.format.specs.Parts.{bytesAt};
-ghost use Rattle.format.specs.Writable.{cueOfWords, regionOfWords, styleOfWords};
+ghost use Rattle.format.specs.Rows.{cueEntry};
+ghost use Rattle.format.specs.Contents.{regionOfEntry, cueOfRow, regionOfRow, styleOfRow};
+ghost use Rattle.format.specs.Writable.{namesOf};
 ghost use Rattle.format.specs.Written.{writtenPoint, writtenId, writtenScroll, regionLines, styleLines, cueLines};
 ghost use Rattle.output.specs.Puts.{Puts};
 ghost use Rattle.setting_forms.specs.Settings.{asked};
-ghost use Rattle.forms.specs.Forms.{timingForm, cueForm, numberLines, recordContents};
+ghost use Rattle.forms.specs.Forms.{timingForm, cueForm, numberLines};
 
 // A text and a line end behind it; nothing where it is empty.
 fn line_before(s: &[u8], out: &mut [u8], at: usize) -> usize
@@ -45,52 +49,55 @@ fn line_behind(s: &[u8], out: &mut [u8], at: usize) -> usize
     bytes(s, out, start)
 }
 
-fn timing_line(row: [u64; 17], asks: bool, name: &[u8], out: &mut [u8], at: usize) -> usize
-    ensures { λ r. ⌜ Puts (timingForm row (asked asks (now (name .entry)))) at (now (out .entry)) r (now (out .exit)) ⌝ }
+fn timing_line(row: CueRow, asks: bool, name: &[u8], out: &mut [u8], at: usize) -> usize
+    ensures { λ r. ⌜ Puts (timingForm (cueEntry row) (asked asks (now (name .entry)))) at (now (out .entry)) r (now (out .exit)) ⌝ }
 {
-    let arrow = time(row[2], out, at);
+    let arrow = time(rows::cues::start(row), out, at);
     let end = bytes(b" --> ", out, arrow);
-    let behind = time(row[3], out, end);
+    let behind = time(rows::cues::end(row), out, end);
     setting_forms::settings(row, asks, name, out, behind)
 }
 
 // One cue without a last line end, with the name of the region it asks for, if it asks for one.
 pub fn cue_named(
     text: &[u8],
-    row: [u64; 17],
+    row: CueRow,
     asks: bool,
     name: &[u8],
     out: &mut [u8],
     at: usize,
 ) -> usize
-    ensures { λ r. ⌜ Puts (cueForm (now (text .entry)) row (asked asks (now (name .entry)))) at (now (out .entry)) r (now (out .exit)) ⌝ }
+    ensures { λ r. ⌜ Puts (cueForm (now (text .entry)) (cueEntry row) (asked asks (now (name .entry)))) at (now (out .entry)) r (now (out .exit)) ⌝ }
 {
-    let timing = line_before(part(text, row[0] as usize, row[1] as usize), out, at);
-    let words = timing_line(row, asks, name, out, timing);
-    line_behind(part(text, row[4] as usize, row[5] as usize), out, words)
+    let id = rows::cues::id(row);
+    let timing = line_before(part(text, id.from, id.to), out, at);
+    let end = timing_line(row, asks, name, out, timing);
+    let words = rows::cues::text(row);
+    line_behind(part(text, words.from, words.to), out, end)
 }
 
 // The identifier of the region with this index; empty where there is none.
-fn region_name<'a>(text: &'a [u8], regions: &[[u64; 9]], index: usize) -> &'a [u8]
-    ensures { λ r. ⌜ now r ≡ getD (map (λ row. bytesAt (now (text .entry)) (word 0 row) (word 1 row)) (now (regions .entry))) index [] ⌝ }
+fn region_name<'a>(text: &'a [u8], regions: &[RegionRow], index: usize) -> &'a [u8]
+    ensures { λ r. ⌜ now r ≡ getD (namesOf (now (text .entry)) (now (regions .entry))) index [] ⌝ }
 {
     if regions.len() <= index {
         return &text[..0];
     }
-    let row = regions[index];
-    part(text, row[0] as usize, row[1] as usize)
+    let id = rows::regions::id(regions[index]);
+    part(text, id.from, id.to)
 }
 
 // One cue of a list, among these regions, without a last line end.
-pub fn cue(text: &[u8], regions: &[[u64; 9]], row: [u64; 17], out: &mut [u8], at: usize) -> usize
-    ensures { λ r. ⌜ Puts (join (cueLines (map (regionOfWords (now (text .entry))) (now (regions .entry))) (cueOfWords (now (text .entry)) row))) at (now (out .entry)) r (now (out .exit)) ⌝ }
+pub fn cue(text: &[u8], regions: &[RegionRow], row: CueRow, out: &mut [u8], at: usize) -> usize
+    ensures { λ r. ⌜ Puts (join (cueLines (map (regionOfRow (now (text .entry))) (now (regions .entry))) (cueOfRow (now (text .entry)) row))) at (now (out .entry)) r (now (out .exit)) ⌝ }
 {
-    let region = row[16];
-    if region == 0 {
-        return cue_named(text, row, false, &text[..0], out, at);
+    match rows::cues::region(row) {
+        RegionIndex::None => cue_named(text, row, false, &text[..0], out, at),
+        RegionIndex::At(index) => {
+            let name = region_name(text, regions, index as usize);
+            cue_named(text, row, true, name, out, at)
+        }
     }
-    let name = region_name(text, regions, (region - 1) as usize);
-    cue_named(text, row, true, name, out, at)
 }
 
 fn point(p: Point, out: &mut [u8], at: usize) -> usize
@@ -140,7 +147,7 @@ fn region_numbers(region: Region, out: &mut [u8], at: usize) -> usize
 
 // One region without a last line end.
 pub fn region(text: &[u8], region: Region, out: &mut [u8], at: usize) -> usize
-    ensures { λ r. ⌜ Puts (join (regionLines (recordContents (now (text .entry)) region))) at (now (out .entry)) r (now (out .exit)) ⌝ }
+    ensures { λ r. ⌜ Puts (join (regionLines (regionOfEntry (now (text .entry)) region))) at (now (out .entry)) r (now (out .exit)) ⌝ }
 {
     let id = region.id;
     let name = bytes(b"REGION", out, at);
@@ -149,9 +156,10 @@ pub fn region(text: &[u8], region: Region, out: &mut [u8], at: usize) -> usize
 }
 
 // One style text without a last line end.
-pub fn style(text: &[u8], row: [u64; 2], out: &mut [u8], at: usize) -> usize
-    ensures { λ r. ⌜ Puts (join (styleLines (styleOfWords (now (text .entry)) row))) at (now (out .entry)) r (now (out .exit)) ⌝ }
+pub fn style(text: &[u8], row: StyleRow, out: &mut [u8], at: usize) -> usize
+    ensures { λ r. ⌜ Puts (join (styleLines (styleOfRow (now (text .entry)) row))) at (now (out .entry)) r (now (out .exit)) ⌝ }
 {
+    let place = rows::styles::text(row);
     let to = bytes(b"STYLE\n", out, at);
-    bytes(part(text, row[0] as usize, row[1] as usize), out, to)
+    bytes(part(text, place.from, place.to), out, to)
 }

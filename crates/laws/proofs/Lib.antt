@@ -16,4 +16,5 @@ pub mod Tokens
 pub mod Standing
 pub mod Contents
 pub mod Names
+pub mod Rows
 pub mod Answers

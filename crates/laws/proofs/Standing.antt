@@ -1,5 +1,5 @@
 -- Every part of a text's lists stands at its place in the text.
-use Prim.Native.Nat.{ℕ, suc, _+_, _-_}
+use Prim.Native.Nat.{ℕ, suc, _+_, _-_, _<_}
 use mathlib.Core.Path.{_≡_, refl, sym, ap, subst, _∙_}
 use mathlib.Core.Bool.{Bool, true, false, cond, not, _||_, _&&_, false≢true}
 use mathlib.Core.List.{List, [], _∷_, _++_, append-assoc}
@@ -7,15 +7,18 @@ use mathlib.Core.Option.{Option, none, some}
 use native.Mathlib.Omega.{arith}
 use lib.Dec.{eqb, ltb}
 use lib.ListN.{length, take, drop, take-append-drop, length-append, length-drop}
+use borrow.Author.Tests.{ltb-true}
 use lib.Seq.{take-length, append-snoc, take-take, take-add, take-append-seam, drop-append-seam, drop-drop}
 use Rattle.format.specs.Bytes.{ascii, lf, white, digit, fullStop, hyphen, greater, colon, percent, comma}
 use Rattle.format.specs.Limits.{maxLine}
 use Rattle.format.specs.Texts.{Part, nowhere, isEmpty, same, endsWith, beforeFirst, run, pastRun, startsWith}
-use Rattle.format.specs.Numbers.{number, percentage, LineNumber, lineNumber, overLine, lineCount}
+use Rattle.format.specs.Numbers.{number, percentage, LineNumber, lineNumber, overLine, isNegative, millionths, lineCount}
 use Rattle.format.specs.Tokens.{inToken, onToken, beforeTokens, tokens, nameOf, valueOf}
 use Rattle.format.specs.CueSettings.{CueSettings, Taken, setRegion, direction, setVertical, setLine, lineAlign, linePercentage, lineCounted}
 use Rattle.format.specs.CueSettings.{lineSetting, setPosition, positionAlign, positionOf, positionSetting, setSize, sizeOf, setAlign, named}
 use Rattle.format.specs.CueSettings.{cueSetting, settingsFrom, cueSettings, isHorizontal, taken, openingSettings}
+use Rattle.format.specs.declared.settings.Line.{Line}
+use Rattle.format.specs.declared.settings.Line.the-variants as Line
 use Rattle.format.specs.declared.settings.LineAlign.{LineAlign}
 use Rattle.format.specs.declared.settings.PositionAlign.{PositionAlign}
 use Rattle.format.specs.RegionSettings.{RegionValues, TakenRegion, setId, setWidth, setLines, point, setAnchor, setViewport, setScroll}
@@ -123,6 +126,12 @@ module _ (s : List ℕ) where
   unfolding valueOf nameOf
   stands-value t h = rw (behind-at colon (t .bytes)) (stands-drop s (t .place) (suc (length (beforeFirst colon (t .bytes)))) (t .bytes) h)
 
+-- a line that is not minus zero
+abbrev pub Signed : Line → Type 0
+Signed Line.Auto = Unit
+Signed (Line.At false n) = Unit
+Signed (Line.At true n) = 0 < n
+
 -- a setting leaves a cue's region as it was, takes it away, or puts its value there
 module _ (P : Part → Type 0) (at-nowhere : P nowhere) where
   OfCue : Taken → Type 0
@@ -194,6 +203,69 @@ module _ (P : Part → Type 0) (at-nowhere : P nowhere) where
   region-settings s (t ∷ ts) v h =
       let r = regionSetting t (s .region) in
       region-settings (record { region = r .region; over = s .over || r .over }) ts (v .1) (region-setting t (s .region) (v .0) h)
+
+-- no setting makes a line minus zero
+line-signed : (n : LineNumber) → Signed (Line.At (isNegative n) (millionths (n .size)))
+unfolding isNegative
+line-signed n = go (n .minus)
+  where
+    go : (minus : Bool) → Signed (Line.At (minus && ltb 0 (millionths (n .size))) (millionths (n .size)))
+    go true = by-test (ltb 0 (millionths (n .size))) (λ y. rw y (ltb-true 0 (millionths (n .size)) y)) (λ z. rw z tt)
+    go false = tt
+
+OfLine : Taken → Type 0
+OfLine t = Signed (t .settings .line .line)
+
+module _ (c : CueSettings) (h : Signed (c .line .line)) where
+  percentage-signed : (n : Option ℕ) (a : Option LineAlign) → OfLine (linePercentage n a c)
+  unfolding OfLine linePercentage setLine
+  percentage-signed none a = h
+  percentage-signed (some n) none = h
+  percentage-signed (some n) (some a) = tt
+
+  counted-signed : (n : Option LineNumber) (a : Option LineAlign) → OfLine (lineCounted n a c)
+  unfolding OfLine lineCounted setLine
+  counted-signed none a = h
+  counted-signed (some n) none = h
+  counted-signed (some n) (some a) = either OfLine (overLine n) h (line-signed n)
+
+  position-signed : (n : Option ℕ) (a : Option PositionAlign) → Signed (positionOf n a c .line .line)
+  unfolding positionOf setPosition
+  position-signed none a = h
+  position-signed (some n) none = h
+  position-signed (some n) (some a) = h
+
+  setting-signed : (t : Part) → OfLine (cueSetting t c)
+  unfolding OfLine cueSetting named setRegion setVertical lineSetting positionSetting sizeOf setSize setAlign
+  setting-signed t =
+      let name = nameOf t in
+      let x = valueOf t .bytes in
+      let n = beforeFirst comma x in
+      let a = lineAlign x (c .line .align) in
+      either OfLine (isEmpty name || isEmpty x) h
+      (either OfLine (same name (ascii "region")) h
+      (either OfLine (same name (ascii "vertical")) h
+      (either OfLine (same name (ascii "line"))
+      (either OfLine (endsWith percent n) (percentage-signed (percentage n) a) (counted-signed (lineNumber n) a))
+      (either OfLine (same name (ascii "position")) (position-signed (percentage n) (positionAlign x (c .position .align)))
+      (either OfLine (same name (ascii "size")) (by-option (λ n. Signed (sizeOf n c .line .line)) (percentage x) h (λ n. h))
+      (either OfLine (same name (ascii "align")) h h))))))
+
+settings-signed : (s : Taken) (ts : List Part) → OfLine s → OfLine (settingsFrom s ts)
+unfolding OfLine settingsFrom
+settings-signed s [] h = h
+settings-signed s (t ∷ ts) h =
+    let r = cueSetting t (s .settings) in
+    settings-signed (record { settings = r .settings; over = s .over || r .over }) ts (setting-signed (s .settings) h t)
+
+timing-signed : (line : Part) (t : Timing) (r : Result Times) → timingOf line r ≡ some t → Signed (t .settings .line .line)
+unfolding timingOf withSettings cueSettings OfLine
+timing-signed line t failed e = let z : _≡_ {A = ℕ} 0 1 = cc in absurd (omega arith)
+timing-signed line t (got x rest) e =
+    let q = line .place + (length (line .bytes) - length rest) in
+    let left : Part = record { place = q; bytes = rest } in
+    let f : withSettings x (cueSettings left) ≡ t = cc in
+    subst (λ u. Signed (u .settings .line .line)) f (settings-signed (taken openingSettings) (tokens q rest) tt)
 
 all-values : (s : List ℕ) (ts : List Part) → All (Stands s) ts → All (λ t. Stands s (valueOf t)) ts
 all-values s [] h = tt
@@ -436,6 +508,8 @@ module _ (s : List ℕ) where
     pub id : Stands s (c .id)
     pub text : Stands s (c .text)
     pub region : Stands s (c .settings .region)
+    -- and its line is not minus zero
+    pub line : Signed (c .settings .line .line)
 
   abbrev pub ItemStands : Item → Type 0
   ItemStands nothing = Unit
@@ -450,9 +524,10 @@ module _ (s : List ℕ) where
       → Stands s line
       → Follow s ls
       → ItemStands (cueOf id ls o)
-  unfolding cueOf
+  unfolding cueOf timingLine
   cue-stands id line ls none e i l h = tt
-  cue-stands id line ls (some t) e i l h = record { id = i; text = follow-joined ls h; region = stands-timing s line t l e }
+  cue-stands id line ls (some t) e i l h =
+      record { id = i; text = follow-joined ls h; region = stands-timing s line t l e; line = timing-signed line t (timings (line .bytes)) e }
 
   meaning-stands : (seen : Bool) (b : List Part) → Follow s b → ItemStands (meaning seen b)
   unfolding meaning definition regionOf

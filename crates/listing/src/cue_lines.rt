@@ -1,5 +1,6 @@
-// The lines of the cues. What each word of a row is stands in crates/format/specs/Rows.antt.
+// The lines of the cues.
 use super::output;
+use format::rows::*;
 ghost use Prim.Native.Nat.{_≤_, _<_};
 ghost use lib.ListN.{length};
 
@@ -23,26 +24,29 @@ fn print_position(code: u64, millionths: u64) {
     output::percentage(millionths);
 }
 
-fn print_settings(row: [u64; 17]) {
-    output::choice(b"horizontal,rl,lr,", row[6]);
-    print_line(row[7], row[8], row[9]);
-    output::choice(b"start,center,end,", row[10]);
-    print_position(row[11], row[12]);
-    output::choice(b"auto,line-left,center,line-right,", row[13]);
-    output::percentage(row[14]);
-    output::choice(b"start,center,end,left,right,", row[15]);
-    output::index(row[16], b"\tnone");
+fn print_settings(row: CueRow) {
+    output::choice(b"horizontal,rl,lr,", row[CUE_VERTICAL]);
+    print_line(row[CUE_LINE], row[CUE_LINE_NUMBER], row[CUE_SNAP]);
+    output::choice(b"start,center,end,", row[CUE_LINE_ALIGN]);
+    print_position(row[CUE_POSITION], row[CUE_POSITION_NUMBER]);
+    output::choice(
+        b"auto,line-left,center,line-right,",
+        row[CUE_POSITION_ALIGN],
+    );
+    output::percentage(row[CUE_SIZE]);
+    output::choice(b"start,center,end,left,right,", row[CUE_ALIGN]);
+    output::index(row[CUE_REGION], b"\tnone");
 }
 
 // The cue with this number.
-fn print_cue(text: &[u8], cues: &[[u64; 17]], number: usize)
+fn print_cue(text: &[u8], cues: &[CueRow], number: usize)
     requires { ⌜ number < length (now cues) ⌝ }
 {
     let row = cues[number];
     output::print(b"cue");
     output::number(number as u64);
-    output::number(row[2]);
-    output::number(row[3]);
+    output::number(row[CUE_START]);
+    output::number(row[CUE_END]);
     output::field(parts::identifier_of(text, cues, number));
     output::field(parts::text_of(text, cues, number));
     print_settings(row);
@@ -50,7 +54,7 @@ fn print_cue(text: &[u8], cues: &[[u64; 17]], number: usize)
 }
 
 // The first `count` cues, a line each.
-pub fn print_all(text: &[u8], cues: &[[u64; 17]], count: usize)
+pub fn print_all(text: &[u8], cues: &[CueRow], count: usize)
     requires { ⌜ count ≤ length (now cues) ⌝ }
 {
     let mut i = 0;

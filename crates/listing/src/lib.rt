@@ -1,6 +1,9 @@
 // Prints on standard output what a player would read of a raw file: its styles, regions and cues, a line each, or the refusal.
 use format::Converted;
 use format::Reading;
+use format::rows::CueRow;
+use format::rows::RegionRow;
+use format::rows::StyleRow;
 
 mod cue_lines;
 mod node_lines;
@@ -47,12 +50,7 @@ fn refuse_reading(answer: Reading) {
 }
 
 // The lines of a plain text.
-fn show_text(
-    text: &[u8],
-    cues: &mut [[u64; 17]],
-    regions: &mut [[u64; 9]],
-    styles: &mut [[u64; 2]],
-) {
+fn show_text(text: &[u8], cues: &mut [CueRow], regions: &mut [RegionRow], styles: &mut [StyleRow]) {
     let answer = reader::read(text, cues, regions, styles);
     let Reading::Lists {
         cues: c,
@@ -72,9 +70,9 @@ fn show_text(
 pub fn show(
     raw: &[u8],
     text: &mut [u8],
-    cues: &mut [[u64; 17]],
-    regions: &mut [[u64; 9]],
-    styles: &mut [[u64; 2]],
+    cues: &mut [CueRow],
+    regions: &mut [RegionRow],
+    styles: &mut [StyleRow],
 ) {
     match plain::convert(raw, text) {
         Converted::Text(n) => show_text(&text[..n], cues, regions, styles),
@@ -88,9 +86,9 @@ pub fn show_file(
     file: i32,
     raw: &mut [u8],
     text: &mut [u8],
-    cues: &mut [[u64; 17]],
-    regions: &mut [[u64; 9]],
-    styles: &mut [[u64; 2]],
+    cues: &mut [CueRow],
+    regions: &mut [RegionRow],
+    styles: &mut [StyleRow],
 ) {
     let n = io::read_full(file, raw);
     if refuse_more(file) {

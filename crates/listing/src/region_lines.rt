@@ -1,24 +1,25 @@
-// The lines of the regions. What each word of a row is stands in crates/format/specs/Rows.antt.
+// The lines of the regions.
 use super::output;
+use format::rows::*;
 ghost use Prim.Native.Nat.{_≤_};
 ghost use lib.ListN.{length};
 
-fn print_row(text: &[u8], number: usize, row: [u64; 9]) {
+fn print_row(text: &[u8], number: usize, row: RegionRow) {
     output::print(b"region");
     output::number(number as u64);
-    output::part(text, row[0], row[1]);
-    output::percentage(row[2]);
-    output::number(row[3]);
-    output::percentage(row[4]);
-    output::percentage(row[5]);
-    output::percentage(row[6]);
-    output::percentage(row[7]);
-    output::choice(b"none,up,", row[8]);
+    output::part(text, row[REGION_ID_FROM], row[REGION_ID_TO]);
+    output::percentage(row[REGION_WIDTH]);
+    output::number(row[REGION_LINES]);
+    output::percentage(row[REGION_ANCHOR_X]);
+    output::percentage(row[REGION_ANCHOR_Y]);
+    output::percentage(row[REGION_VIEWPORT_X]);
+    output::percentage(row[REGION_VIEWPORT_Y]);
+    output::choice(b"none,up,", row[REGION_SCROLL]);
     output::print(b"\n");
 }
 
 // The first `count` rows, a line each.
-pub fn print_all(text: &[u8], regions: &[[u64; 9]], count: usize)
+pub fn print_all(text: &[u8], regions: &[RegionRow], count: usize)
     requires { ⌜ count ≤ length (now regions) ⌝ }
 {
     let mut i = 0;

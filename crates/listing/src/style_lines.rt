@@ -1,10 +1,11 @@
 // The lines of the style texts.
 use super::output;
+use format::rows::*;
 ghost use Prim.Native.Nat.{_≤_};
 ghost use lib.ListN.{length};
 
 // The first `count` rows, a line each.
-pub fn print_all(text: &[u8], styles: &[[u64; 2]], count: usize)
+pub fn print_all(text: &[u8], styles: &[StyleRow], count: usize)
     requires { ⌜ count ≤ length (now styles) ⌝ }
 {
     let mut i = 0;
@@ -12,7 +13,7 @@ pub fn print_all(text: &[u8], styles: &[[u64; 2]], count: usize)
         let row = styles[i];
         output::print(b"style");
         output::number(i as u64);
-        output::part(text, row[0], row[1]);
+        output::part(text, row[STYLE_FROM], row[STYLE_TO]);
         output::print(b"\n");
         i += 1;
     }

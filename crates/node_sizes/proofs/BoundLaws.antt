@@ -10,10 +10,9 @@ use lib.Dec.{eqb, ltb}
 use lib.ListN.{length, drop, length-drop, drop-of-length-le}
 use borrow.Author.Tests.{ltb-true, ltb-false}
 use Rattle.format.specs.Limits.{maxText}
-use Rattle.format.specs.Parts.{bytesAt}
 use Rattle.format.specs.Times.{Time, overHours}
 use Rattle.format.specs.CueText.{cueTokensFrom, cueTokens, visitEnd}
-use Rattle.format.specs.Texts.{isEmpty, same}
+use Rattle.format.specs.Texts.{isEmpty, same, bytesAt}
 use Rattle.format.specs.Trees.{kindNamed, tagTime, tokenOver, anyTimeOver, nodes}
 use Rattle.laws.proofs.Tests.{by-test}
 use Rattle.tokenizer.specs.Tags.{spanBytes, tokenIs, PartsIn, Marked, TokenAt}

@@ -7,7 +7,7 @@ use native.Mathlib.Omega.{arith}
 use lib.Dec.{ltb}
 use lib.ListN.{length, getD}
 use borrow.Author.Tests.{ltb-true, ltb-false}
-use Rattle.format.specs.Parts.{bytesAt}
+use Rattle.format.specs.Texts.{bytesAt}
 use Rattle.format.specs.CueText.{collapsed}
 use Rattle.format.specs.Trees.{classString}
 use Rattle.format.specs.declared.settings.Span.{Span}

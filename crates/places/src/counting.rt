@@ -1,5 +1,6 @@
 // How many cues a plain text has, by the same reading as `reader::read`: with tables of one row it tells the counts all the same.
 use format::Reading;
+use format::rows::*;
 ghost use mathlib.Core.Path.{_≡_};
 ghost use Prim.Native.Nat.{_≤_};
 ghost use lib.ListN.{length};
@@ -40,8 +41,8 @@ pub fn count_cues(s: &[u8]) -> Counted
     requires { ⌜ (Plain (now s)) × (length (now s) ≤ maxText) ⌝ }
     ensures { λ r. ⌜ CountedIs (now (s .entry)) r ⌝ }
 {
-    let mut cues = [[0u64; 17]; 1];
-    let mut regions = [[0u64; 9]; 1];
-    let mut styles = [[0u64; 2]; 1];
+    let mut cues = [[0u64; CUE_WORDS]; 1];
+    let mut regions = [[0u64; REGION_WORDS]; 1];
+    let mut styles = [[0u64; STYLE_WORDS]; 1];
     cues_of(reader::read(s, &mut cues, &mut regions, &mut styles))
 }

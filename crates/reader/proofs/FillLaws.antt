@@ -14,7 +14,7 @@ use Rattle.format.specs.RegionSettings.{RegionValues, regionIs}
 use Rattle.format.specs.Blocks.{blocks}
 use Rattle.format.specs.Answers.{placed}
 use Rattle.format.specs.Lists.{Cue, Item, nothing, cue, style, region, isCue, itemsFrom, items, into, listed, lists, itemOver, anyOver}
-use Rattle.format.specs.Rows.{word, cueWords, regionWords, styleWords, ids, indexIs, regionFor, entryIs, cueRows, regionRows, styleRows}
+use Rattle.format.specs.Rows.{regionEntry, cueWords, regionWords, styleWords, ids, indexIs, regionFor, entryIs, cueRows, regionRows, styleRows}
 use Rattle.laws.proofs.Tests.{by-test, or-true, or-first, or-second}
 use Rattle.laws.proofs.Filling.{Fills, fills-start, fills-room, fills-some, fills-next, fills-all, fills-end, fills-front}
 use Rattle.laws.proofs.Standing.{Stands, All, CueStands, ItemStands, items-stand, blocks-follow, lists-stand}
@@ -58,7 +58,7 @@ span-empty p =
     (λ y. rw y refl)
     (λ n. rw n (ne-eqb (p .place) (p .place + length (p .bytes)) (λ e. absurd (omega (arith, some-bytes (p .bytes) n)))))
 
-rows-ids : (s : List ℕ) (rs : List RegionValues) → All (λ r. Stands s (r .id)) rs → map (λ row. partOf s (word 0 row) (word 1 row) .bytes) (regionRows rs) ≡ ids rs
+rows-ids : (s : List ℕ) (rs : List RegionValues) → All (λ r. Stands s (r .id)) rs → map (λ row. partOf s (regionEntry row .id .from) (regionEntry row .id .to) .bytes) (regionRows rs) ≡ ids rs
 unfolding regionRows ids
 rows-ids s [] h = refl
 rows-ids s (r ∷ rs) h = let a = part-back s (r .id) (h .0) in let b = rows-ids s rs (h .1) in rw (a, b)

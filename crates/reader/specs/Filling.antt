@@ -5,7 +5,7 @@ use mathlib.Core.List.{List, map}
 use lib.Dec.{eqb}
 use lib.ListN.{take, set}
 use Rattle.format.specs.RegionSettings.{lastNamed}
-use Rattle.format.specs.Rows.{word, cueWords, regionWords, styleWords, indexIs}
+use Rattle.format.specs.Rows.{regionEntry, cueWords, regionWords, styleWords, indexIs}
 use Rattle.format.specs.declared.settings.Span.{Span}
 use Rattle.format.specs.declared.rows.RegionIndex.{RegionIndex}
 use Rattle.format.specs.declared.rows.RegionIndex.the-variants as RegionIndex
@@ -21,7 +21,7 @@ abbrev pub regionAt : List ℕ → List (List ℕ) → Span → RegionIndex
 regionAt s rows name =
     cond (eqb (name .from) (name .to)) RegionIndex.None
     (indexIs
-    (lastNamed 0 (partOf s (name .from) (name .to) .bytes) (map (λ row. partOf s (word 0 row) (word 1 row) .bytes) rows)))
+    (lastNamed 0 (partOf s (name .from) (name .to) .bytes) (map (λ row. partOf s (regionEntry row .id .from) (regionEntry row .id .to) .bytes) rows)))
 
 abbrev pub entryOf : List ℕ → List (List ℕ) → CueRead → CueEntry
 entryOf s rows c =

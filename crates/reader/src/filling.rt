@@ -4,7 +4,10 @@ use blocks::Next;
 use blocks::items::CueRead;
 use blocks::items::Item;
 use format::rows::CueEntry;
+use format::rows::CueRow;
 use format::rows::RegionIndex;
+use format::rows::RegionRow;
+use format::rows::StyleRow;
 use format::settings::Span;
 ghost use mathlib.Core.Path.{_≡_};
 ghost use mathlib.Core.Bool.{false};
@@ -19,7 +22,7 @@ ghost use Rattle.blocks.specs.Collecting.{linesFrom};
 ghost use Rattle.reader.specs.Filling.{regionAt, entryOf, cuesWith, regionsWith, stylesWith, RoomFor};
 
 // The region of this name among the first `count` rows.
-fn region_of(text: &[u8], name: Span, regions: &[[u64; 9]], count: usize) -> RegionIndex
+fn region_of(text: &[u8], name: Span, regions: &[RegionRow], count: usize) -> RegionIndex
     requires { ⌜ count ≤ length (now regions) ⌝ }
     ensures { λ r. ⌜ r ≡ regionAt (now (text .entry)) (take count (now (regions .entry))) name ⌝ }
 {
@@ -29,7 +32,7 @@ fn region_of(text: &[u8], name: Span, regions: &[[u64; 9]], count: usize) -> Reg
     lookup::find_region(text, regions, count, name)
 }
 
-fn entry(text: &[u8], cue: CueRead, regions: &[[u64; 9]], count: usize) -> CueEntry
+fn entry(text: &[u8], cue: CueRead, regions: &[RegionRow], count: usize) -> CueEntry
     requires { ⌜ count ≤ length (now regions) ⌝ }
     ensures { λ r. ⌜ r ≡ entryOf (now (text .entry)) (take count (now (regions .entry))) cue ⌝ }
 {
@@ -60,9 +63,9 @@ fn put(
     text: &[u8],
     item: Item,
     n: Counts,
-    cues: &mut [[u64; 17]],
-    regions: &mut [[u64; 9]],
-    styles: &mut [[u64; 2]],
+    cues: &mut [CueRow],
+    regions: &mut [RegionRow],
+    styles: &mut [StyleRow],
 )
     requires { ⌜ RoomFor item n (length (now cues)) (length (now regions)) (length (now styles)) ⌝ }
     ensures cues { λ _. ⌜ now (cues .exit) ≡ cuesWith (now (text .entry)) item n (now (regions .entry)) (now (cues .entry)) ⌝ }
@@ -91,9 +94,9 @@ fn put(
 pub fn fill(
     text: &[u8],
     from: usize,
-    cues: &mut [[u64; 17]],
-    regions: &mut [[u64; 9]],
-    styles: &mut [[u64; 2]],
+    cues: &mut [CueRow],
+    regions: &mut [RegionRow],
+    styles: &mut [StyleRow],
 )
     requires { ⌜ (from ≤ length (now text)) × (length (now text) ≤ maxText) × (blocks (now text) ≡ blocksFrom between (linesFrom (now text) from)) × (anyOver (items (now text)) ≡ false) ⌝ }
     requires { ⌜ (length (lists (now text) .cues) ≤ length (now cues)) × (length (lists (now text) .regions) ≤ length (now regions)) × (length (lists (now text) .styles) ≤ length (now styles)) ⌝ }

@@ -1,5 +1,8 @@
 // Reading a plain text into lent tables of cues, regions and style texts. Any bytes and tables of any length are taken.
 use format::Reading;
+use format::rows::CueRow;
+use format::rows::RegionRow;
+use format::rows::StyleRow;
 ghost use mathlib.Core.Path.{_≡_};
 ghost use mathlib.Core.Bool.{_||_};
 ghost use lib.Dec.{ltb};
@@ -27,9 +30,9 @@ fn too_short(cues: usize, regions: usize, styles: usize, need: counting::Counts)
 // The lists of a plain text, as rows at the start of each table. The meaning of a row's words is in format/specs/Rows.antt.
 pub fn read(
     text: &[u8],
-    cues: &mut [[u64; 17]],
-    regions: &mut [[u64; 9]],
-    styles: &mut [[u64; 2]],
+    cues: &mut [CueRow],
+    regions: &mut [RegionRow],
+    styles: &mut [StyleRow],
 ) -> Reading
     ensures answer { λ r. ⌜ readingIs r ≡ reading (now (text .entry)) (length (now (cues .entry))) (length (now (regions .entry))) (length (now (styles .entry))) ⌝ }
     ensures cues { λ r. ⌜ now (cues .exit) ≡ afterReading (readingIs r) (cueRows (lists (now (text .entry)) .regions) (lists (now (text .entry)) .cues)) (now (cues .entry)) ⌝ }

@@ -12,13 +12,12 @@ use Rattle.format.specs.Limits.{maxFile, maxText}
 use Rattle.format.specs.Texts.{isEmpty}
 use Rattle.format.specs.Plain.{plainText, Plain}
 use Rattle.format.specs.Lines.{split}
-use Rattle.format.specs.Rows.{word}
+use Rattle.format.specs.Rows.{newCueEntry}
+use Rattle.format.specs.Contents.{cueOfEntry}
 use Rattle.format.specs.Blocks.{hasSignature}
 use Rattle.format.specs.Lists.{items, lists, anyOver}
-use Rattle.format.specs.Parts.{bytesAt}
 use Rattle.format.specs.Answers.{ifAccepted, fileAnswer}
-use Rattle.format.specs.Writable.{cueTest2, cueTest3, cueTest4, cueTest5}
-use Rattle.format.specs.Replacing.{emptyLine, rawLines, rawStart, rawEnd, newTest1, newTest6, newCueFails, regionNames, newFile, noGap, lineBefore, replacingIs, unlessTest, replacingText, replacing, Replaced}
+use Rattle.format.specs.Replacing.{emptyLine, rawLines, rawStart, rawEnd, newCueFails, regionNames, newFile, noGap, lineBefore, replacingIs, unlessTest, replacingText, replacing, Replaced}
 use Rattle.format.specs.declared.Replacing.{Replacing}
 use Rattle.format.specs.declared.Replacing.the-variants as Replacing
 use Rattle.laws.proofs.Newlines.{newlines-keeps}
@@ -60,7 +59,7 @@ module _ (s t w : List ℕ) {test : ℕ} (e : test ≡ testNumber (newCueFails t
 
   pub no-test : test ≡ 0 → newCueFails t w (regionNames s) ≡ none
   unfolding newCueFails
-  no-test z = none-fails 1 (newTest1 t w ∷ cueTest2 t w ∷ cueTest3 t w ∷ cueTest4 w ∷ cueTest5 w ∷ newTest6 t w (regionNames s) ∷ []) (omega arith) (sym e ∙ z)
+  no-test z = none-fails 1 _ (omega arith) (sym e ∙ z)
 
 pub test-told :
     (raw s t w : List ℕ) {test : ℕ}
@@ -75,7 +74,7 @@ pub gap-told :
     (raw s t w id : List ℕ) (number from to : ℕ) (r : Bool)
     → s ≡ plainText raw
     → OwnLines s number from to
-    → id ≡ bytesAt t (word 0 w) (word 1 w)
+    → id ≡ cueOfEntry t (newCueEntry w) .id
     → r ≡ not (isEmpty id) && not (isEmpty (getD (split s) (lineEnds (take from s) - 1) []))
     → noGap (plainText raw) number t w ≡ r
 unfolding noGap lineBefore

@@ -1,8 +1,8 @@
 -- Laws of the new file: the pieces it is put together of, and the form of the new cue among the old file's regions.
 use Prim.Native.Nat.{ℕ, _-_, _≤_, _<_}
-use mathlib.Core.Path.{_≡_, refl, ap}
+use mathlib.Core.Path.{_≡_, refl, ap, _∙_}
 use mathlib.Core.Bool.{true, false, not, _||_, false≢true}
-use mathlib.Core.List.{List, [], _∷_}
+use mathlib.Core.List.{List, [], _∷_, _++_}
 use mathlib.Core.Option.{Option, none, some}
 use native.Mathlib.Omega.{arith}
 use lib.Dec.{ltb}
@@ -14,14 +14,13 @@ use Rattle.format.specs.Answers.{ifAccepted, fileAnswer}
 use Rattle.format.specs.declared.Replacing.the-variants as Replacing
 use Rattle.output.specs.Puts.{Puts}
 use Rattle.output.proofs.FileLaws as File
-use Rattle.format.specs.Texts.{isEmpty}
+use Rattle.format.specs.Texts.{isEmpty, bytesAt}
 use Rattle.format.specs.Plain.{plainText}
-use Rattle.format.specs.Rows.{word}
-use Rattle.format.specs.Parts.{bytesAt}
+use Rattle.format.specs.Rows.{cueEntry, newCueEntry}
 use Rattle.format.specs.RegionSettings.{lastNamed}
 use Rattle.format.specs.Lists.{lists}
-use Rattle.format.specs.Contents.{contents}
-use Rattle.format.specs.Writable.{cueOfWords, cueTest2, cueTest3, cueTest4, cueTest5}
+use Rattle.format.specs.Contents.{contents, cueOfEntry}
+use Rattle.format.specs.Writable.{cueTests}
 use Rattle.format.specs.Written.{writtenRegionName, writtenSettings, writtenTiming, cueLines}
 use Rattle.format.specs.Replacing.{nameLent, regionAsked, withRegion, cueAsked, newTest1, isThere, newTest6, newCueFails, regionNames, newForm, newFile, replacingIs, rawStart, rawEnd, ownStart, ownEnd}
 use Rattle.laws.proofs.Tests.{by-test}
@@ -30,7 +29,6 @@ use Rattle.replaced.proofs.Asked.{names-are, asked-name}
 use Rattle.setting_forms.specs.Settings.{asked, namedRegion, settingsForm}
 use Rattle.forms.specs.Forms.{timingForm, cueForm}
 use Rattle.places.specs.Places.{lineEnds, OwnLines}
-use Rattle.places.specs.NewCue.{cueRow}
 use Rattle.replace.specs.NewCue.{lentForm, inPlace, Outcome}
 
 pub front-part : (s : List ℕ) (n : ℕ) → bytesAt s 0 n ≡ take n s
@@ -49,11 +47,13 @@ some-bytes (b ∷ s) = lt-ltb 0 (length (b ∷ s)) (omega arith)
 -- the new cue's written form, by its words and its region's name
 pub lent-form :
     (t w words name : List ℕ)
-    → words ≡ cueRow w
-    → name ≡ bytesAt t (word 16 w) (word 17 w)
-    → cueForm t words (asked (ltb 0 (length name)) name) ≡ lentForm t w
-unfolding lentForm nameLent
-lent-form t w words name e f = rw (e, f) (ap (λ a. cueForm t (cueRow w) (asked a (bytesAt t (word 16 w) (word 17 w)))) (some-bytes (bytesAt t (word 16 w) (word 17 w))))
+    → cueEntry words ≡ newCueEntry w
+    → name ≡ nameLent t w
+    → cueForm t (cueEntry words) (asked (ltb 0 (length name)) name) ≡ lentForm t w
+unfolding lentForm
+lent-form t w words name e f =
+    ap (λ x. cueForm t x (asked (ltb 0 (length name)) name)) e
+    ∙ rw f (ap (λ a. cueForm t (newCueEntry w) (asked a (nameLent t w))) (some-bytes (nameLent t w)))
 
 -- it is the form of the cue asked for, where no test fails
 module _ (s t w : List ℕ) (e : newCueFails t w (regionNames s) ≡ none) where
@@ -70,9 +70,9 @@ module _ (s t w : List ℕ) (e : newCueFails t w (regionNames s) ≡ none) where
   found-region (some i) q h = rw (names-are s t w e, asked-name s t w e i q) refl
 
   is-there : (isEmpty name || isThere (lastNamed 0 name names)) ≡ true
-  unfolding newCueFails newTest6
+  unfolding newCueFails newTest6 cueTests
   is-there =
-      none-fails 1 (newTest1 t w ∷ cueTest2 t w ∷ cueTest3 t w ∷ cueTest4 w ∷ cueTest5 w ∷ newTest6 t w names ∷ []) e .1 .1 .1 .1 .1 .0
+      none-fails 1 (newTest1 t w ∷ cueTests (cueOfEntry t (newCueEntry w)) ++ newTest6 t w names ∷ []) e .1 .1 .1 .1 .1 .0
 
   region-form : namedRegion (asked (not (isEmpty name)) name) ≡ writtenRegionName (contents (lists s) .regions) (regionAsked names name)
   unfolding namedRegion regionAsked writtenRegionName
@@ -82,7 +82,7 @@ module _ (s t w : List ℕ) (e : newCueFails t w (regionNames s) ≡ none) where
       (λ n. rw n (found-region (lastNamed 0 name names) (rw n refl) (rw n at is-there)))
 
   pub form-is : lentForm t w ≡ newForm s t w
-  unfolding lentForm newForm cueForm cueLines cueAsked withRegion cueOfWords timingForm settingsForm writtenTiming writtenSettings
+  unfolding lentForm newForm cueForm cueLines cueAsked withRegion cueOfEntry timingForm settingsForm writtenTiming writtenSettings
   form-is = rw region-form refl
 
 -- the file that the code puts together is the new file

@@ -11,15 +11,15 @@ use Rattle.format.specs.Plain.{plainText}
 use Rattle.format.specs.Blocks.{hasSignature}
 use Rattle.format.specs.Lists.{items, lists, anyOver}
 use Rattle.format.specs.Answers.{Answer, refused, ifAccepted, fileAnswer, placed}
+use Rattle.format.specs.Rows.{newCueEntry}
 use Rattle.format.specs.Replacing.{nameLent, newCueFails, regionNames, newFile, noGap, replacingIs, unlessTest}
 use Rattle.format.specs.declared.Replacing.{Replacing}
 use Rattle.setting_forms.specs.Settings.{asked}
 use Rattle.forms.specs.Forms.{cueForm}
-use Rattle.places.specs.NewCue.{cueRow}
 
 -- the written form of the new cue
 unfoldable pub lentForm : List ℕ → List ℕ → List ℕ
-lentForm t w = cueForm t (cueRow w) (asked (not (isEmpty (nameLent t w))) (nameLent t w))
+lentForm t w = cueForm t (newCueEntry w) (asked (not (isEmpty (nameLent t w))) (nameLent t w))
 
 -- that form in place of the bytes of a file from one place up to another
 unfoldable pub inPlace : List ℕ → ℕ → ℕ → List ℕ → List ℕ → List ℕ

@@ -2,6 +2,7 @@
 // asked of the caller.
 use format::Converted;
 use format::Replacing;
+use format::rows::NewCueRow;
 use format::settings::Span;
 use output::bytes;
 use places::counting;
@@ -35,13 +36,14 @@ fn put_file(
     start: usize,
     end: usize,
     text: &[u8],
-    row: [u64; 18],
+    row: NewCueRow,
     out: &mut [u8],
 ) -> usize
     ensures { λ r. ⌜ Puts (inPlace (now (raw .entry)) start end (now (text .entry)) row) 0 (now (out .entry)) r (now (out .exit)) ⌝ }
 {
-    let name = part(text, row[16] as usize, row[17] as usize);
-    let words = testing::cue_words(row);
+    let place = rows::new_cue_name(row);
+    let name = part(text, place.from, place.to);
+    let words = rows::cue_of_new(row);
     let own = bytes(part(raw, 0, start), out, 0);
     let behind = forms::cue_named(text, words, 0 < name.len(), name, out, own);
     bytes(part(raw, end, raw.len()), out, behind)
@@ -54,7 +56,7 @@ fn replace_own(
     number: usize,
     own: Span,
     text: &[u8],
-    row: [u64; 18],
+    row: NewCueRow,
     out: &mut [u8],
 ) -> Replacing
     requires { ⌜ (Readable (now raw) (now s)) × (OwnLines (now s) number (own .from) (own .to)) × (newCueFails (now text) row (regionNames (now s)) ≡ none) ⌝ }
@@ -99,14 +101,15 @@ fn replace_found(
     s: &[u8],
     number: usize,
     text: &[u8],
-    row: [u64; 18],
+    row: NewCueRow,
     out: &mut [u8],
 ) -> Replacing
     requires { ⌜ (Readable (now raw) (now s)) × (number < length (lists (now s) .cues)) × (newCueFails (now text) row (regionNames (now s)) ≡ none) ⌝ }
     ensures { λ r. ⌜ Outcome (newFile (now (raw .entry)) number (now (text .entry)) row) (now (out .entry)) (gapAnswer (now (raw .entry)) number (now (text .entry)) row (length (now (out .entry)))) r (now (out .exit)) ⌝ }
 {
     let own = finding::find_cue(s, number);
-    let id = part(text, row[0] as usize, row[1] as usize);
+    let place = rows::new_cue_id(row);
+    let id = part(text, place.from, place.to);
     if lacks_gap(s, own.from, id) {
         return Replacing::NoGap;
     }
@@ -119,7 +122,7 @@ fn replace_there(
     s: &[u8],
     number: usize,
     text: &[u8],
-    row: [u64; 18],
+    row: NewCueRow,
     out: &mut [u8],
 ) -> Replacing
     requires { ⌜ (Readable (now raw) (now s)) × (number < length (lists (now s) .cues)) ⌝ }
@@ -139,7 +142,7 @@ fn replace_counted(
     count: usize,
     number: usize,
     text: &[u8],
-    row: [u64; 18],
+    row: NewCueRow,
     out: &mut [u8],
 ) -> Replacing
     requires { ⌜ (Readable (now raw) (now s)) × (count ≡ length (lists (now s) .cues)) ⌝ }
@@ -157,7 +160,7 @@ fn replace_in(
     s: &[u8],
     number: usize,
     text: &[u8],
-    row: [u64; 18],
+    row: NewCueRow,
     out: &mut [u8],
 ) -> Replacing
     requires { ⌜ (now s ≡ plainText (now raw)) × (length (now raw) ≤ maxFile) ⌝ }
@@ -175,7 +178,7 @@ fn replace_in(
 pub fn replace_cue(
     raw: &[u8],
     number: usize,
-    row: [u64; 18],
+    row: NewCueRow,
     text: &[u8],
     scratch: &mut [u8],
     out: &mut [u8],

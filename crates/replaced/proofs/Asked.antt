@@ -2,7 +2,7 @@
 use Prim.Native.Nat.{ℕ, _-_}
 use mathlib.Core.Path.{_≡_, refl, sym, ap, _∙_}
 use mathlib.Core.Bool.{true, false, not, _||_, false≢true}
-use mathlib.Core.List.{List, [], _∷_, map}
+use mathlib.Core.List.{List, [], _∷_, map, _++_}
 use mathlib.Core.Option.{Option, none, some}
 use native.Mathlib.Omega.{arith}
 use lib.Dec.{eqb}
@@ -14,19 +14,20 @@ use Rattle.format.specs.Plain.{Plain}
 use Rattle.format.specs.Lines.{split, join}
 use Rattle.format.specs.RegionSettings.{lastNamed}
 use Rattle.format.specs.Lists.{lists}
-use Rattle.format.specs.Rows.{word}
-use Rattle.format.specs.Parts.{cueTest1, partPlain}
-use Rattle.format.specs.Contents.{CueContents, RegionContents, contents}
-use Rattle.format.specs.Writable.{noneEmpty, isIndex, lastOfItsName, regionAllowed, cueTest2, cueTest3, cueTest4, cueTest5}
+use Rattle.format.specs.Rows.{newCueEntry, newCueName}
+use Rattle.format.specs.Contents.{CueContents, RegionContents, contents, cueOfEntry}
+use Rattle.format.specs.Writable.{partPlain, noneEmpty, isIndex, lastOfItsName, cueTest1, cueTest6, cueTests}
 use Rattle.format.specs.Written.{writtenRegionName, cueLines}
 use Rattle.format.specs.Replacing.{nameLent, regionAsked, withRegion, cueAsked, newTest1, isThere, newTest6, newCueFails, regionNames, newForm}
 use Rattle.laws.proofs.Tests.{by-test, and-left, and-right, absent}
 use Rattle.laws.proofs.Standing.{All}
+use Rattle.laws.proofs.Rows.{row-signed}
+use Rattle.format.specs.declared.rows.RegionIndex.the-variants as RegionIndex
 use Rattle.laws.proofs.Lines.{unbroken, split-join}
 use Rattle.laws.proofs.Names.{found}
 use Rattle.laws.proofs.Tokens.{inside as black}
 use Rattle.roundtrip.proofs.Shape.{Block, timed, none-fails}
-use Rattle.roundtrip.proofs.Cues.{CueWritable, tests-writable}
+use Rattle.roundtrip.proofs.Cues.{CueWritable, tests-writable, all-front}
 use Rattle.roundtrip.proofs.Plain.{PlainCue, cue-plain, plain-cueLines, plain-join, plain-setting, part-plain, plainByte}
 use Rattle.roundtrip.proofs.Files.{ids-contents, cue-blocks}
 use Rattle.replaced.proofs.Names.{names-dark}
@@ -42,15 +43,15 @@ asked-allowed :
     → isEmpty name ≡ false
     → lastNamed 0 name names ≡ o
     → isThere o ≡ true
-    → regionAllowed names o ≡ true
-unfolding regionAllowed lastOfItsName isIndex isThere
+    → cueTest6 names o ≡ true
+unfolding cueTest6 lastOfItsName isIndex isThere
 asked-allowed names name none n e t = refl
 asked-allowed names name (some i) n e t =
     let f = found 0 name names i e in
     rw (found-name names name i e, n, e, lt-ltb i (length names) (omega (arith, f .below)), eq-eqb i i refl)
 
-region-allowed : (names : List (List ℕ)) (name : List ℕ) → (isEmpty name || isThere (lastNamed 0 name names)) ≡ true → regionAllowed names (regionAsked names name) ≡ true
-unfolding regionAllowed regionAsked
+region-allowed : (names : List (List ℕ)) (name : List ℕ) → (isEmpty name || isThere (lastNamed 0 name names)) ≡ true → cueTest6 names (regionAsked names name) ≡ true
+unfolding cueTest6 regionAsked
 region-allowed names name t =
     by-test (isEmpty name)
     (λ y. rw y)
@@ -88,19 +89,26 @@ module _ (s t w : List ℕ) (e : newCueFails t w (regionNames s) ≡ none) where
   unfolding regionNames
   dark i = names-dark s i
 
+  abbrev lent : CueContents
+  lent = cueOfEntry t (newCueEntry w)
+
+  -- the tests of the new cue
+  passed : All (λ t. t ≡ true) (newTest1 t w ∷ cueTests lent ++ newTest6 t w names ∷ [])
+  unfolding newCueFails
+  passed = none-fails 1 (newTest1 t w ∷ cueTests lent ++ newTest6 t w names ∷ []) e
+
   pub asked-writable : CueWritable rs asked
-  unfolding newCueFails newTest6 cueAsked
+  unfolding cueTests newTest6 cueAsked cueOfEntry
   asked-writable =
-      let passed = none-fails 1 (newTest1 t w ∷ cueTest2 t w ∷ cueTest3 t w ∷ cueTest4 w ∷ cueTest5 w ∷ newTest6 t w names ∷ []) e in
       let allowed = region-allowed names (nameLent t w) (passed .1 .1 .1 .1 .1 .0) in
-      tests-writable rs (regionAsked names (nameLent t w)) t w (passed .1 .0) (passed .1 .1 .0) (passed .1 .1 .1 .0) (passed .1 .1 .1 .1 .0)
+      let tests = all-front (λ t. t ≡ true) (cueTests lent) (newTest6 t w names ∷ []) (passed .1) in
+      tests-writable rs (regionAsked names (nameLent t w)) lent tests (row-signed RegionIndex.None w)
       (rw names-are allowed) (λ i. rw names-are (dark i))
 
   -- its written form is plain, is not empty and does not begin with a line end
   plain-asked : PlainCue asked
-  unfolding newCueFails newTest1 cueAsked withRegion
+  unfolding newTest1 cueAsked withRegion cueOfEntry
   plain-asked =
-      let passed = none-fails 1 (newTest1 t w ∷ cueTest2 t w ∷ cueTest3 t w ∷ cueTest4 w ∷ cueTest5 w ∷ newTest6 t w names ∷ []) e in
       let parts = cue-plain t w (and-left (cueTest1 t w) _ (passed .0)) in
       record { id = parts .id; text = parts .text }
 
@@ -114,10 +122,10 @@ module _ (s t w : List ℕ) (e : newCueFails t w (regionNames s) ≡ none) where
       (λ n. let g : lastNamed 0 name names ≡ some i = rw n at q in found-name names name i g)
 
   plain-lent : Plain (nameLent t w)
-  unfolding newCueFails newTest1 nameLent
+  unfolding newTest1 nameLent
   plain-lent =
-      let passed = none-fails 1 (newTest1 t w ∷ cueTest2 t w ∷ cueTest3 t w ∷ cueTest4 w ∷ cueTest5 w ∷ newTest6 t w names ∷ []) e in
-      part-plain t (word 16 w) (word 17 w) (and-right (cueTest1 t w) (partPlain t (word 16 w) (word 17 w)) (passed .0))
+      let name = newCueName w in
+      part-plain t (name .from) (name .to) (and-right (cueTest1 t w) (partPlain t (name .from) (name .to)) (passed .0))
 
   plain-name : (o : Option ℕ) → regionAsked names (nameLent t w) ≡ o → All Plain (writtenRegionName rs o)
   unfolding writtenRegionName all plainByte

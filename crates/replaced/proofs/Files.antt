@@ -18,7 +18,7 @@ use Rattle.format.specs.Lists.{items, lists, anyOver}
 use Rattle.format.specs.Answers.{Answer, accepted, ifAccepted, andThen, fileAnswer}
 use Rattle.format.specs.Converting.{converting}
 use Rattle.format.specs.Reading.{reading}
-use Rattle.format.specs.Writable.{cueOfWords}
+use Rattle.format.specs.Contents.{cueOfEntry}
 use Rattle.format.specs.Replacing.{cueBlocks, firstLine, lastLine, ownStart, ownEnd, cueAsked, newCueFails, withRegion, regionNames, newForm, newFile, noGap, unlessTest, replacingText, replacing, refusedOnlyBy, Replaced}
 use Rattle.laws.proofs.Tests.{by-test}
 use Rattle.laws.proofs.Answers.{behind-test, behind-answer}
@@ -91,7 +91,7 @@ pub replaced :
     (raw : List ℕ) (number : ℕ) (t w : List ℕ) (scratch out : ℕ) (vs : List ℕ)
     → replacing raw number t w scratch out ≡ accepted vs
     → Replaced raw number t w
-unfolding newFile newForm ownStart ownEnd lastLine noGap cueAsked withRegion cueOfWords
+unfolding newFile newForm ownStart ownEnd lastLine noGap cueAsked withRegion cueOfEntry
 replaced raw number t w scratch out vs e =
     let ok = accepts raw number t w scratch out vs e in
     let s = plainText raw in

@@ -10,6 +10,7 @@ use fields::field_behind;
 use fields::read_decimal;
 use fields::unescape;
 use format::rows::CueEntry;
+use format::rows::NewCueRow;
 use format::rows::RegionIndex;
 use format::settings::Settings;
 use format::settings::Span;
@@ -193,27 +194,6 @@ pub fn read(line: &[u8], room: &mut [u8]) -> Asked {
 }
 
 // The new cue as it is lent for replacing.
-pub fn row(request: Request) -> [u64; 18] {
-    let words = rows::cue_row(request.cue);
-    let region = request.region;
-    [
-        words[0],
-        words[1],
-        words[2],
-        words[3],
-        words[4],
-        words[5],
-        words[6],
-        words[7],
-        words[8],
-        words[9],
-        words[10],
-        words[11],
-        words[12],
-        words[13],
-        words[14],
-        words[15],
-        region.from as u64,
-        region.to as u64,
-    ]
+pub fn row(request: Request) -> NewCueRow {
+    rows::new_cue_row(request.cue, request.region)
 }

@@ -3,6 +3,9 @@ use format::Converted;
 use format::Reading;
 use format::Rewriting;
 use format::Writing;
+use format::rows::CueRow;
+use format::rows::RegionRow;
+use format::rows::StyleRow;
 ghost use mathlib.Core.Path.{_≡_};
 ghost use lib.ListN.{length, take};
 ghost use Rattle.format.specs.Plain.{plainText};
@@ -54,11 +57,11 @@ fn written(answer: Writing) -> Rewriting
 // Writes the first rows of each table.
 fn write_first(
     text: &[u8],
-    styles: &[[u64; 2]],
+    styles: &[StyleRow],
     s: usize,
-    regions: &[[u64; 9]],
+    regions: &[RegionRow],
     r: usize,
-    cues: &[[u64; 17]],
+    cues: &[CueRow],
     c: usize,
     out: &mut [u8],
 ) -> Rewriting
@@ -80,9 +83,9 @@ fn write_first(
 // Reads a plain text and writes what it reads as.
 fn rewrite_text(
     text: &[u8],
-    cues: &mut [[u64; 17]],
-    regions: &mut [[u64; 9]],
-    styles: &mut [[u64; 2]],
+    cues: &mut [CueRow],
+    regions: &mut [RegionRow],
+    styles: &mut [StyleRow],
     out: &mut [u8],
 ) -> Rewriting
     ensures answer { λ r. ⌜ rewritingIs r ≡ numberOnly (readAndWrite (now (text .entry)) (lengths (now (text .entry)) (now (cues .entry)) (now (regions .entry)) (now (styles .entry)) (now (out .entry)))) ⌝ }
@@ -107,9 +110,9 @@ fn rewrite_text(
 pub fn rewrite(
     raw: &[u8],
     text: &mut [u8],
-    cues: &mut [[u64; 17]],
-    regions: &mut [[u64; 9]],
-    styles: &mut [[u64; 2]],
+    cues: &mut [CueRow],
+    regions: &mut [RegionRow],
+    styles: &mut [StyleRow],
     out: &mut [u8],
 ) -> Rewriting
     ensures answer { λ r. ⌜ rewritingIs r ≡ numberOnly (rewriting (now (raw .entry)) (lengths (now (text .entry)) (now (cues .entry)) (now (regions .entry)) (now (styles .entry)) (now (out .entry)))) ⌝ }

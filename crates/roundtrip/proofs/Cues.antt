@@ -10,7 +10,7 @@ use lib.Dec.{eqb, leb, ltb}
 use lib.ListN.{length, getD}
 use borrow.Author.Tests.{ne-eqb, eqb-true, eq-eqb, ltb-true, leb-true, le-ltb, not-true}
 use Rattle.format.specs.Bytes.{ascii, white, lf, percent, comma, hyphen, fullStop, colon, digit}
-use Rattle.format.specs.Texts.{Part, nowhere, isEmpty, same, all, run, endsWith, startsWith, pastRun, beforeFirst, has}
+use Rattle.format.specs.Texts.{Part, nowhere, isEmpty, same, all, run, endsWith, startsWith, pastRun, beforeFirst, has, bytesAt}
 use Rattle.format.specs.CueSettings.{CueSettings, Taken, taken, openingSettings, setRegion, direction, setVertical, setLine}
 use Rattle.format.specs.CueSettings.{lineAlign, linePercentage, lineCounted, lineSetting, setPosition, positionAlign, positionOf}
 use Rattle.format.specs.CueSettings.{positionSetting, setSize, sizeOf, setAlign, alignment, named, cueSetting, settingsFrom, cueSettings}
@@ -18,15 +18,13 @@ use Rattle.format.specs.Written.{lastDigits, decimalIn, writtenTime, withoutZer
 use Rattle.format.specs.Written.{writtenVertical, writtenLineAlign, writtenLineNumber, writtenLine, writtenPositionAlign, writtenPosition}
 use Rattle.format.specs.Written.{writtenSize, writtenAlign, writtenRegionName, writtenSettings, afterSpaces, writtenTiming, lineEnded}
 use Rattle.format.specs.Blocks.{linesAt, holdsArrow}
-use Rattle.format.specs.Rows.{word}
-use Rattle.format.specs.Parts.{bytesAt, cueTest1}
-use Rattle.format.specs.Writable.{unsignedZero, cueOfWords, regionOfWords, unbroken, cueTest2, cueTest3, cueTest4, is100, lineFits}
-use Rattle.format.specs.Writable.{positionFits, cueTest5, isIndex, lastOfItsName, regionAllowed, cueTest6, cueFails}
-use Rattle.format.specs.Writable.{regionTest1, regionTest2, regionTest3, regionTest4, regionFails}
+use Rattle.format.specs.Rows.{cueEntry}
+use Rattle.format.specs.Writable.{unbroken, atMost100, lineFits, positionFits, isIndex, lastOfItsName, namesOf, cueTest1, cueTest2, cueTest3, cueTest4}
+use Rattle.format.specs.Writable.{cueTest5, cueTest6, cueTests, cueFails, regionTest1, regionTest2, regionTests, regionFails}
 use Rattle.format.specs.RegionSettings.{lastNamed}
 use Rattle.format.specs.Times.{got, onGot, expect}
 use Rattle.format.specs.TimingLines.{arrow, arrowAndEnd, timings, Timing, withSettings, timingOf, timingLine}
-use Rattle.format.specs.Contents.{CueContents, RegionContents}
+use Rattle.format.specs.Contents.{CueContents, RegionContents, cueOfEntry, cueOfRow, regionOfRow}
 use Rattle.format.specs.declared.settings.Direction.{Direction}
 use Rattle.format.specs.declared.settings.Direction.the-variants as Direction
 use Rattle.format.specs.declared.settings.Line.{Line}
@@ -45,7 +43,8 @@ use Rattle.laws.proofs.Tests.{and-left, and-right, and-both, and-false, or-true
 use Rattle.laws.proofs.Tokens.{inside as black}
 use Rattle.laws.proofs.Standing as Standing
 use Rattle.format.specs.Replacing.{withRegion}
-use Rattle.laws.proofs.Standing.{All}
+use Rattle.laws.proofs.Standing.{All, Signed}
+use Rattle.laws.proofs.Rows.{row-signed}
 use Rattle.roundtrip.proofs.Numbers.{all-append, some-append, run-over, endsWith-snoc, decimal-all, TimeRead, time-read, fraction-all}
 use Rattle.roundtrip.proofs.Numbers.{percentage-read, line-read, numeral, writtenTime-numeral, writtenDecimal-numeral}
 use Rattle.roundtrip.proofs.Numbers.{writtenPercentage-numeral, numeral-absent, numeral-unwhite, writtenTime-some, writtenDecimal-some}
@@ -612,53 +611,48 @@ module _ (rs : List RegionContents) (c : CueContents) where
         is = rw (timing-is, times-read (c .start) (c .end) settingsText t u, s .is, t .value, u .value, t .within, u .within);
       }
 
--- a row's line, position and region can be set
-plus-percentage : (kind m : ℕ) → eqb kind 1 || eqb m 0 ≡ true → eqb kind 2 && ltb 0 m ≡ false
-plus-percentage kind m e =
-    by-test (eqb kind 1)
-    (λ y. rw (ne-eqb kind 2 (λ z. omega (arith, eqb-true kind 1 y))))
-    (λ n. let is : eqb m 0 ≡ true = rw n at e in and-false (eqb kind 2) (ltb 0 m) (le-ltb 0 m (omega (arith, eqb-true m 0 is))))
+-- a line and a position that pass test 5 can be set
+line-fits :
+    (l : Line) (snap : Bool) (a : LineAlign)
+    → Signed l
+    → lineFits (record { line = l; snap = snap; align = a }) ≡ true
+    → LineSettable (record { line = l; snap = snap; align = a })
+unfolding lineFits atMost100
+line-fits Line.Auto true LineAlign.Start h f = autoLine
+line-fits Line.Auto false LineAlign.Start h f = absurd (false≢true f)
+line-fits Line.Auto snap LineAlign.Center h f = absurd (false≢true f)
+line-fits Line.Auto snap LineAlign.End h f = absurd (false≢true f)
+line-fits (Line.At false m) true a h f = lineAt (counted (leb-true m 999_999_000_000 f) (λ e. absurd (false≢true e)))
+line-fits (Line.At true m) true a h f = lineAt (counted (leb-true m 999_999_000_000 f) (λ e. h))
+line-fits (Line.At false m) false a h f = lineAt (parted (leb-true m 100_000_000 (and-left (leb m 100_000_000) true f)))
+line-fits (Line.At true m) false a h f = absurd (false≢true (and-right (leb m 100_000_000) false f))
 
-line-fits : (s w : List ℕ) → lineFits w ≡ true → LineSettable (cueOfWords s w .line)
-unfolding lineFits cueOfWords unsignedZero is100
-line-fits s w f =
-    let kind = word 7 w in
-    let m = word 8 w in
-    let snap = word 9 w in
-    let a = word 10 w in
-    by-test (eqb kind 0)
-    (λ y. let g : eqb a 0 && eqb snap 0 ≡ true = rw y at f in
-    rw (y, and-right (eqb a 0) (eqb snap 0) g, and-left (eqb a 0) (eqb snap 0) g) autoLine)
-    (λ n. by-test (eqb snap 0)
-    (λ y. let g : leb m 999_999_000_000 ≡ true = rw (n, y) at f in
-    rw (n, y) (lineAt (counted (leb-true m 999_999_000_000 g) (λ e. ltb-true 0 m (and-right (eqb kind 2) (ltb 0 m) e)))))
-    (λ z. let g : leb m 100_000_000 && (eqb kind 1 || eqb m 0) ≡ true = rw (n, z) at f in
-    rw (n, z, plus-percentage kind m (and-right (leb m 100_000_000) (eqb kind 1 || eqb m 0) g))
-    (lineAt (parted (leb-true m 100_000_000 (and-left (leb m 100_000_000) (eqb kind 1 || eqb m 0) g))))))
+position-fits :
+    (q : Position) (a : PositionAlign)
+    → positionFits (record { position = q; align = a }) ≡ true
+    → PositionSettable (record { position = q; align = a })
+unfolding positionFits atMost100
+position-fits Position.Auto PositionAlign.Auto f = autoPosition
+position-fits Position.Auto PositionAlign.LineLeft f = absurd (false≢true f)
+position-fits Position.Auto PositionAlign.Center f = absurd (false≢true f)
+position-fits Position.Auto PositionAlign.LineRight f = absurd (false≢true f)
+position-fits (Position.At m) a f = positionAt (leb-true m 100_000_000 f)
 
-position-fits : (s w : List ℕ) → positionFits w ≡ true → PositionSettable (cueOfWords s w .position)
-unfolding positionFits cueOfWords is100
-position-fits s w f =
-    by-test (eqb (word 11 w) 0)
-    (λ y. let g : eqb (word 13 w) 0 ≡ true = rw y at f in rw (y, g) autoPosition)
-    (λ n. let g : leb (word 12 w) 100_000_000 ≡ true = rw n at f in rw n (positionAt (leb-true (word 12 w) 100_000_000 g)))
-
-pub names-of : (s : List ℕ) (rows : List (List ℕ)) → map (λ r. r .id) (map (regionOfWords s) rows) ≡ map (λ r. bytesAt s (word 0 r) (word 1 r)) rows
-unfolding regionOfWords
+pub names-of : (s : List ℕ) (rows : List (List ℕ)) → map (λ r. r .id) (map (regionOfRow s) rows) ≡ namesOf s rows
 names-of s [] = refl
 names-of s (r ∷ rows) = rw (names-of s rows)
 
-name-black : (s r : List ℕ) → regionFails s r ≡ none → all black (regionOfWords s r .id) ≡ true
-unfolding regionFails regionTest2 regionOfWords
+name-black : (s r : List ℕ) → regionFails s r ≡ none → all black (regionOfRow s r .id) ≡ true
+unfolding regionFails regionTests regionTest2
 name-black s r e =
-    let passed = none-fails 1 (regionTest1 s r ∷ regionTest2 s r ∷ regionTest3 r ∷ regionTest4 r ∷ []) e in
-    let id = bytesAt s (word 0 r) (word 1 r) in
+    let passed = none-fails 1 (regionTest1 s r ∷ regionTests (regionOfRow s r)) e in
+    let id = regionOfRow s r .id in
     and-left (all black id) (not (holdsArrow id)) (passed .1 .0)
 
 names-black :
     (s : List ℕ) (rows : List (List ℕ)) (i : ℕ)
     → All (λ r. regionFails s r ≡ none) rows
-    → all black (regionName (map (regionOfWords s) rows) (some i)) ≡ true
+    → all black (regionName (map (regionOfRow s) rows) (some i)) ≡ true
 unfolding all
 names-black s [] zero h = refl
 names-black s [] (suc i) h = refl
@@ -667,10 +661,10 @@ names-black s (r ∷ rows) (suc i) h = names-black s rows i (h .1)
 
 region-allowed :
     (rs : List RegionContents) (o : Option ℕ)
-    → regionAllowed (map (λ r. r .id) rs) o ≡ true
+    → cueTest6 (map (λ r. r .id) rs) o ≡ true
     → ((i : ℕ) → all black (regionName rs (some i)) ≡ true)
     → RegionSettable rs o
-unfolding regionAllowed lastOfItsName isToken
+unfolding cueTest6 lastOfItsName isToken
 region-allowed rs none e f = noRegion
 region-allowed rs (some i) e f =
     let names = map (λ r. r .id) rs in
@@ -687,48 +681,58 @@ pub record CueWritable (rs : List RegionContents) (c : CueContents) : Type 0 whe
   pub line : absent lf (c .id) ≡ true
   pub plain : holdsArrow (c .id) ≡ false
   pub text : isEmpty (c .text) || unbroken (c .text) ≡ true
-  pub region : regionAllowed (map (λ r. r .id) rs) (c .region) ≡ true
+  pub region : cueTest6 (map (λ r. r .id) rs) (c .region) ≡ true
 
--- the tests 2 to 5 of a row say so, whichever allowed region the cue asks for
+-- the tests 2 to 5 say so, whichever allowed region the cue asks for
 pub tests-writable :
-    (rs : List RegionContents) (o : Option ℕ) (s w : List ℕ)
-    → cueTest2 s w ≡ true
-    → cueTest3 s w ≡ true
-    → cueTest4 w ≡ true
-    → cueTest5 w ≡ true
-    → regionAllowed (map (λ r. r .id) rs) o ≡ true
+    (rs : List RegionContents) (o : Option ℕ) (c : CueContents)
+    → All (λ t. t ≡ true) (cueTests c)
+    → Signed (c .line .line)
+    → cueTest6 (map (λ r. r .id) rs) o ≡ true
     → ((i : ℕ) → all black (regionName rs (some i)) ≡ true)
-    → CueWritable rs (withRegion o (cueOfWords s w))
-unfolding cueTest2 cueTest3 cueTest4 cueTest5 cueOfWords withRegion is100
-tests-writable rs o s w second third times fits allowed names =
-    let id = bytesAt s (word 0 w) (word 1 w) in
-    let before = ltb-true (word 2 w) (word 3 w) (and-left (ltb (word 2 w) (word 3 w)) (ltb (word 3 w) 360_000_000_000) times) in
-    let within = ltb-true (word 3 w) 360_000_000_000 (and-right (ltb (word 2 w) (word 3 w)) (ltb (word 3 w) 360_000_000_000) times) in
-    let others = and-right (lineFits w) (positionFits w && is100 (word 14 w)) fits in
+    → CueWritable rs (withRegion o c)
+unfolding cueTests cueTest2 cueTest3 cueTest4 cueTest5 withRegion atMost100
+tests-writable rs o c tests signed allowed names =
+    let id = c .id in
+    let times = tests .1 .1 .0 in
+    let fits = tests .1 .1 .1 .0 in
+    let before = ltb-true (c .start) (c .end) (and-left (ltb (c .start) (c .end)) (ltb (c .end) 360_000_000_000) times) in
+    let within = ltb-true (c .end) 360_000_000_000 (and-right (ltb (c .start) (c .end)) (ltb (c .end) 360_000_000_000) times) in
+    let line = lineFits (c .line) in
+    let position = positionFits (c .position) in
+    let size = leb (c .size) 100_000_000 in
+    let others = and-right line (position && size) fits in
     record {
       settable = record {
-        line = line-fits s w (and-left (lineFits w) (positionFits w && is100 (word 14 w)) fits);
-        position = position-fits s w (and-left (positionFits w) (is100 (word 14 w)) others);
-        size = leb-true (word 14 w) 100_000_000 (and-right (positionFits w) (is100 (word 14 w)) others);
+        line = line-fits (c .line .line) (c .line .snap) (c .line .align) signed (and-left line (position && size) fits);
+        position = position-fits (c .position .position) (c .position .align) (and-left position size others);
+        size = leb-true (c .size) 100_000_000 (and-right position size others);
         region = region-allowed rs o allowed names;
       };
       start = omega arith;
       end = within;
-      line = absent-has lf id (and-left (not (has lf id)) (not (holdsArrow id)) second);
-      plain = not-true (holdsArrow id) (and-right (not (has lf id)) (not (holdsArrow id)) second);
-      text = third;
+      line = absent-has lf id (and-left (not (has lf id)) (not (holdsArrow id)) (tests .0));
+      plain = not-true (holdsArrow id) (and-right (not (has lf id)) (not (holdsArrow id)) (tests .0));
+      text = tests .1 .0;
       region = allowed;
     }
+
+-- some of the tests of a list
+pub all-front : {A : Type 0} (P : A → Type 0) (xs ys : List A) → All P (xs ++ ys) → All P xs
+all-front P [] ys h = tt
+all-front P (x ∷ xs) ys h = (h .0, all-front P xs ys (h .1))
 
 pub cue-writable :
     (s : List ℕ) (rows : List (List ℕ)) (w : List ℕ)
     → cueFails s rows w ≡ none
     → All (λ r. regionFails s r ≡ none) rows
-    → CueWritable (map (regionOfWords s) rows) (cueOfWords s w)
-unfolding cueFails cueTest6 cueOfWords withRegion
+    → CueWritable (map (regionOfRow s) rows) (cueOfRow s w)
+unfolding cueFails cueTests cueOfEntry withRegion
 cue-writable s rows w e h =
-    let passed = none-fails 1 (cueTest1 s w ∷ cueTest2 s w ∷ cueTest3 s w ∷ cueTest4 w ∷ cueTest5 w ∷ cueTest6 s rows w ∷ []) e in
-    let rs = map (regionOfWords s) rows in
-    let allowed : regionAllowed (map (λ r. r .id) rs) (cueOfWords s w .region) ≡ true = rw (names-of s rows) (passed .1 .1 .1 .1 .1 .0) in
-    tests-writable rs (cueOfWords s w .region) s w (passed .1 .0) (passed .1 .1 .0) (passed .1 .1 .1 .0) (passed .1 .1 .1 .1 .0) allowed
+    let c = cueOfRow s w in
+    let last = cueTest6 (namesOf s rows) (c .region) ∷ [] in
+    let passed = none-fails 1 (cueTest1 s w ∷ cueTests c ++ last) e in
+    let rs = map (regionOfRow s) rows in
+    let allowed : cueTest6 (map (λ r. r .id) rs) (c .region) ≡ true = rw (names-of s rows) (passed .1 .1 .1 .1 .1 .0) in
+    tests-writable rs (c .region) c (all-front (λ t. t ≡ true) (cueTests c) last (passed .1)) (row-signed (cueEntry w .region) w) allowed
     (λ i. names-black s rows i h)

@@ -16,10 +16,9 @@ use Rattle.format.specs.RegionSettings.{RegionValues, lastNamed}
 use Rattle.format.specs.TimingLines.{timingLine}
 use Rattle.format.specs.Blocks.{linesAt, bytesOf, blocks, hasSignature, joined}
 use Rattle.format.specs.Lists.{Cue, Item, cue, region, cueOf, meaning, isCue, itemsFrom, items, into, listed, lists, itemOver, anyOver}
-use Rattle.format.specs.Rows.{ids, regionFor}
-use Rattle.format.specs.Contents.{CueContents, RegionContents, Contents, cueContents, regionContents, contents}
-use Rattle.format.specs.Parts.{cueTest1}
-use Rattle.format.specs.Writable.{unbroken, isIndex, lastOfItsName, regionAllowed, cueOfWords, regionOfWords, styleOfWords, contentsOfRows, cueFails, regionFails, styleFails, cueTest2, cueTest3, cueTest4, cueTest5, cueTest6, regionTest1, regionTest2, regionTest3, regionTest4, styleTest1, styleTest2}
+use Rattle.format.specs.Rows.{ids, regionFor, styleEntry}
+use Rattle.format.specs.Contents.{CueContents, RegionContents, Contents, cueContents, regionContents, contents, contentsOfRows, cueOfRow, regionOfRow, styleOfRow}
+use Rattle.format.specs.Writable.{unbroken, isIndex, lastOfItsName, namesOf, cueFails, regionFails, styleFails, cueTest1, cueTest6, cueTests, regionTest1, regionTests, styleTest1}
 use Rattle.format.specs.Written.{styleLines, regionLines, writtenTiming, cueLines, fileLines, written}
 use Rattle.format.specs.Answers.{Answer, accepted, refused}
 use Rattle.format.specs.Reading.{reading, counts}
@@ -81,9 +80,9 @@ index-is (some j) i e = ap some (eqb-true j i e)
 region-back :
     (rs : List RegionContents) (read : List RegionValues) (o : Option ℕ) (p : ℕ)
     → ids read ≡ map (λ r. r .id) rs
-    → regionAllowed (map (λ r. r .id) rs) o ≡ true
+    → cueTest6 (map (λ r. r .id) rs) o ≡ true
     → regionFor read (record { place = p; bytes = regionName rs o }) ≡ o
-unfolding regionFor regionAllowed lastOfItsName isEmpty
+unfolding regionFor cueTest6 lastOfItsName isEmpty
 region-back rs read none p e a = refl
 region-back rs read (some i) p e a =
     let names = map (λ r. r .id) rs in
@@ -265,26 +264,28 @@ unfolding unlessFailing
 accepts none answer vs e = (refl, e)
 accepts (some us) answer vs e = let z : _≡_ {A = ℕ} 0 1 = cc in absurd (omega arith)
 
-style-passes : (s w : List ℕ) → styleFails s w ≡ none → unbroken (styleOfWords s w) ≡ true
-unfolding styleFails styleTest2 styleOfWords
-style-passes s w e = none-fails 1 (styleTest1 s w ∷ styleTest2 s w ∷ []) e .1 .0
+-- a style that passes is whole
+style-passes : (s w : List ℕ) → styleFails s w ≡ none → unbroken (styleOfRow s w) ≡ true
+unfolding styleFails
+style-passes s w e = none-fails 1 (styleTest1 s (styleEntry w) ∷ unbroken (styleOfRow s w) ∷ []) e .1 .0
 
 each : {A : Type 0} (P Q : A → Type 0) → ((x : A) → P x → Q x) → (xs : List A) → All P xs → All Q xs
 each P Q f [] h = tt
 each P Q f (x ∷ xs) h = (f x (h .0), each P Q f xs (h .1))
 
-style-test1 : (s w : List ℕ) → styleFails s w ≡ none → styleTest1 s w ≡ true
+style-test1 : (s w : List ℕ) → styleFails s w ≡ none → styleTest1 s (styleEntry w) ≡ true
 unfolding styleFails
-style-test1 s w e = none-fails 1 (styleTest1 s w ∷ styleTest2 s w ∷ []) e .0
+style-test1 s w e = none-fails 1 (styleTest1 s (styleEntry w) ∷ unbroken (styleOfRow s w) ∷ []) e .0
 
 region-test1 : (s w : List ℕ) → regionFails s w ≡ none → regionTest1 s w ≡ true
 unfolding regionFails
-region-test1 s w e = none-fails 1 (regionTest1 s w ∷ regionTest2 s w ∷ regionTest3 w ∷ regionTest4 w ∷ []) e .0
+region-test1 s w e = none-fails 1 (regionTest1 s w ∷ regionTests (regionOfRow s w)) e .0
 
 cue-test1 : (s : List ℕ) (rows : List (List ℕ)) (w : List ℕ) → cueFails s rows w ≡ none → cueTest1 s w ≡ true
 unfolding cueFails
 cue-test1 s rows w e =
-    none-fails 1 (cueTest1 s w ∷ cueTest2 s w ∷ cueTest3 s w ∷ cueTest4 w ∷ cueTest5 w ∷ cueTest6 s rows w ∷ []) e .0
+    let c = cueOfRow s w in
+    none-fails 1 (cueTest1 s w ∷ cueTests c ++ cueTest6 (namesOf s rows) (c .region) ∷ []) e .0
 
 -- writing any writable lists, then reading, gives those lists back
 pub round-trip :
@@ -299,14 +300,14 @@ round-trip s styles regions cues room vs e =
     let a = none-first 0 (styleFails s) 0 styles (rest .0) in
     let b = none-first 1 (regionFails s) 0 regions (more .0) in
     let d = none-first 2 (cueFails s regions) 0 cues (last .0) in
-    let texts = all-map (λ w. styleFails s w ≡ none) (λ t. unbroken t ≡ true) (styleOfWords s) (style-passes s) styles a in
-    let known = all-map (λ w. regionFails s w ≡ none) Regional (regionOfWords s) (region-passes s) regions b in
+    let texts = all-map (λ w. styleFails s w ≡ none) (λ t. unbroken t ≡ true) (styleOfRow s) (style-passes s) styles a in
+    let known = all-map (λ w. regionFails s w ≡ none) Regional (regionOfRow s) (region-passes s) regions b in
     let known-cues =
-    all-map (λ w. cueFails s regions w ≡ none) (CueWritable (map (regionOfWords s) regions)) (cueOfWords s)
+    all-map (λ w. cueFails s regions w ≡ none) (CueWritable (map (regionOfRow s) regions)) (cueOfRow s)
     (λ w q. cue-writable s regions w q b) cues d in
     let plain =
     rows-plain s styles regions cues
-    (each (λ w. styleFails s w ≡ none) (λ w. styleTest1 s w ≡ true) (style-test1 s) styles a)
+    (each (λ w. styleFails s w ≡ none) (λ w. styleTest1 s (styleEntry w) ≡ true) (style-test1 s) styles a)
     (each (λ w. regionFails s w ≡ none) (λ w. regionTest1 s w ≡ true) (region-test1 s) regions b)
     (each (λ w. cueFails s regions w ≡ none) (λ w. cueTest1 s w ≡ true) (cue-test1 s regions) cues d) in
     let c = contentsOfRows s styles regions cues in

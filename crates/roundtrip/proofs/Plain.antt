@@ -9,13 +9,12 @@ use lib.Dec.{leb, ltb, eqb}
 use lib.ListN.{length, getD, take, drop, length-append, take-append-drop}
 use borrow.Author.Tests.{ltb-true, ltb-false, eqb-false, not-true}
 use Rattle.format.specs.Bytes.{ascii, digit, nul, cr, lf, space, comma, hyphen, colon}
-use Rattle.format.specs.Texts.{isEmpty, all}
+use Rattle.format.specs.Texts.{isEmpty, all, bytesAt}
 use Rattle.format.specs.Lines.{onFirst, before, split, endedLines, join}
 use Rattle.format.specs.Plain.{sequence, repair, plainStart, plainFrom, firstNotPlain, Plain}
-use Rattle.format.specs.Contents.{CueContents, RegionContents, Contents}
-use Rattle.format.specs.Rows.{word, cueCodesNamed, regionCodesNamed}
-use Rattle.format.specs.Parts.{bytesAt, partPlain, cueTest1}
-use Rattle.format.specs.Writable.{cueOfWords, regionOfWords, styleOfWords, contentsOfRows, regionTest1, styleTest1}
+use Rattle.format.specs.Contents.{CueContents, RegionContents, Contents, contentsOfRows, cueOfEntry, regionOfEntry, styleOfEntry, cueOfRow, regionOfRow, styleOfRow}
+use Rattle.format.specs.Rows.{cueCodesNamed, regionCodesNamed, cueEntry, regionEntry, styleEntry}
+use Rattle.format.specs.Writable.{partPlain, cueTest1, regionTest1, styleTest1}
 use Rattle.format.specs.Written.{decimalIn, writtenTime, writtenDecimal, writtenPercentage, setting, writtenVertical, writtenLineAlign}
 use Rattle.format.specs.Written.{writtenLineNumber, writtenLine, writtenPositionAlign, writtenPosition, writtenSize, writtenAlign}
 use Rattle.format.specs.Written.{writtenRegionName, writtenSettings, afterSpaces, writtenTiming, linesOf, cueLines, writtenPoint, writtenId}
@@ -403,36 +402,38 @@ part-plain s from to e =
     let whole = not-true stops (and-right (leb to (length s)) (not stops) within) in
     omega (arith, ltb-false (firstNotPlain x) (length x) whole, plain-most 0 x)
 
-pub cue-plain : (s w : List ℕ) → cueTest1 s w ≡ true → PlainCue (cueOfWords s w)
-unfolding cueTest1 cueOfWords
+pub cue-plain : (s w : List ℕ) → cueTest1 s w ≡ true → PlainCue (cueOfRow s w)
+unfolding cueTest1 cueOfEntry
 cue-plain s w e =
-    let id = partPlain s (word 0 w) (word 1 w) in
-    let text = partPlain s (word 4 w) (word 5 w) in
+    let c = cueEntry w in
+    let id = partPlain s (c .id .from) (c .id .to) in
+    let text = partPlain s (c .text .from) (c .text .to) in
     let rest = and-right id (text && cueCodesNamed w) e in
     record {
-      id = part-plain s (word 0 w) (word 1 w) (and-left id (text && cueCodesNamed w) e);
-      text = part-plain s (word 4 w) (word 5 w) (and-left text (cueCodesNamed w) rest);
+      id = part-plain s (c .id .from) (c .id .to) (and-left id (text && cueCodesNamed w) e);
+      text = part-plain s (c .text .from) (c .text .to) (and-left text (cueCodesNamed w) rest);
     }
 
-pub region-plain : (s w : List ℕ) → regionTest1 s w ≡ true → PlainRegion (regionOfWords s w)
-unfolding regionTest1 regionOfWords
+pub region-plain : (s w : List ℕ) → regionTest1 s w ≡ true → PlainRegion (regionOfRow s w)
+unfolding regionTest1 regionOfEntry
 region-plain s w e =
-    part-plain s (word 0 w) (word 1 w) (and-left (partPlain s (word 0 w) (word 1 w)) (regionCodesNamed w) e)
+    let id = regionEntry w .id in
+    part-plain s (id .from) (id .to) (and-left (partPlain s (id .from) (id .to)) (regionCodesNamed w) e)
 
-pub style-plain : (s w : List ℕ) → styleTest1 s w ≡ true → Plain (styleOfWords s w)
-unfolding styleTest1 styleOfWords
-style-plain s w e = part-plain s (word 0 w) (word 1 w) e
+pub style-plain : (s w : List ℕ) → styleTest1 s (styleEntry w) ≡ true → Plain (styleOfRow s w)
+unfolding styleTest1 styleOfEntry
+style-plain s w e = let t = styleEntry w in part-plain s (t .from) (t .to) e
 
 pub rows-plain :
     (s : List ℕ) (styles regions cues : List (List ℕ))
-    → All (λ w. styleTest1 s w ≡ true) styles
+    → All (λ w. styleTest1 s (styleEntry w) ≡ true) styles
     → All (λ w. regionTest1 s w ≡ true) regions
     → All (λ w. cueTest1 s w ≡ true) cues
     → PlainContents (contentsOfRows s styles regions cues)
 unfolding contentsOfRows
 rows-plain s styles regions cues f g h =
     record {
-      cues = all-map (λ w. cueTest1 s w ≡ true) PlainCue (cueOfWords s) (cue-plain s) cues h;
-      regions = all-map (λ w. regionTest1 s w ≡ true) PlainRegion (regionOfWords s) (region-plain s) regions g;
-      styles = all-map (λ w. styleTest1 s w ≡ true) Plain (styleOfWords s) (style-plain s) styles f;
+      cues = all-map (λ w. cueTest1 s w ≡ true) PlainCue (cueOfRow s) (cue-plain s) cues h;
+      regions = all-map (λ w. regionTest1 s w ≡ true) PlainRegion (regionOfRow s) (region-plain s) regions g;
+      styles = all-map (λ w. styleTest1 s (styleEntry w) ≡ true) Plain (styleOfRow s) (style-plain s) styles f;
     }

@@ -11,17 +11,15 @@ use lib.ListN.{length, length-append}
 use borrow.Author.Tests.{leb-true, le-ltb, lt-ltb, not-true}
 use Rattle.format.specs.Bytes.{ascii, digit, white, hyphen, comma, colon}
 use Rattle.format.specs.Limits.{maxLine}
-use Rattle.format.specs.Texts.{Part, nowhere, startsWith, same, isEmpty, all, has}
+use Rattle.format.specs.Texts.{Part, nowhere, startsWith, same, isEmpty, all, has, bytesAt}
 use Rattle.format.specs.Lines.{join}
 use Rattle.format.specs.Blocks.{linesAt, holdsArrow}
 use Rattle.format.specs.RegionSettings.{RegionValues, openingRegion, TakenRegion, takenRegion, setId, setWidth, setLines, pointOf, point}
 use Rattle.format.specs.RegionSettings.{setAnchor, setViewport, setScroll, namedRegion, regionSetting, regionFrom, regionSettings}
 use Rattle.format.specs.Lists.{Item, region, regionOf, meaning}
-use Rattle.format.specs.Contents.{RegionContents, regionContents}
+use Rattle.format.specs.Contents.{RegionContents, regionContents, regionOfRow}
 use Rattle.format.specs.Written.{decimalIn, writtenPercentage, setting, writtenPoint, writtenId, writtenScroll, regionLines}
-use Rattle.format.specs.Rows.{word}
-use Rattle.format.specs.Parts.{bytesAt}
-use Rattle.format.specs.Writable.{is100, regionOfWords, regionTest1, regionTest2, regionTest3, regionTest4, regionFails}
+use Rattle.format.specs.Writable.{atMost100, regionTest1, regionTest2, regionTest3, regionTest4, regionTests, regionFails}
 use Rattle.format.specs.declared.regions.Point.{Point}
 use Rattle.format.specs.declared.regions.Scroll.{Scroll}
 use Rattle.format.specs.declared.regions.Scroll.the-variants as Scroll
@@ -369,32 +367,31 @@ regionLines-mean p c h =
     }
 
 -- a row that passes all tests
-up-to-100 : (n : ℕ) → is100 n ≡ true → n ≤ 100_000_000
-unfolding is100
+up-to-100 : (n : ℕ) → atMost100 n ≡ true → n ≤ 100_000_000
+unfolding atMost100
 up-to-100 n e = leb-true n 100_000_000 e
 
-pub region-passes : (s w : List ℕ) → regionFails s w ≡ none → Regional (regionOfWords s w)
-unfolding regionFails regionOfWords regionTest2 regionTest3 regionTest4
+pub region-passes : (s w : List ℕ) → regionFails s w ≡ none → Regional (regionOfRow s w)
+unfolding regionFails regionTests regionTest2 regionTest3 regionTest4
 region-passes s w e =
-    let ts = none-fails 1 (regionTest1 s w ∷ regionTest2 s w ∷ regionTest3 w ∷ regionTest4 w ∷ []) e in
-    let id = bytesAt s (word 0 w) (word 1 w) in
+    let r = regionOfRow s w in
+    let ts = none-fails 1 (regionTest1 s w ∷ regionTests r) e in
+    let id = r .id in
     let two : all black id && not (holdsArrow id) ≡ true = ts .1 .0 in
-    let hundred : ℕ → Bool = λ i. is100 (word i w) in
-    let three : hundred 2 && (hundred 4 && (hundred 5 && (hundred 6 && hundred 7))) ≡ true = ts .1 .1 .0 in
-    let from4 = and-right (hundred 2) (hundred 4 && (hundred 5 && (hundred 6 && hundred 7))) three in
-    let from5 = and-right (hundred 4) (hundred 5 && (hundred 6 && hundred 7)) from4 in
-    let from6 = and-right (hundred 5) (hundred 6 && hundred 7) from5 in
+    let width = atMost100 (r .width) in
+    let ax = atMost100 (r .anchor .x) in
+    let ay = atMost100 (r .anchor .y) in
+    let vx = atMost100 (r .viewport .x) in
+    let vy = atMost100 (r .viewport .y) in
+    let three : width && (ax && (ay && (vx && vy))) ≡ true = ts .1 .1 .0 in
+    let from-ax = and-right width (ax && (ay && (vx && vy))) three in
+    let from-ay = and-right ax (ay && (vx && vy)) from-ax in
+    let from-vx = and-right ay (vx && vy) from-ay in
     record {
       dark = and-left (all black id) (not (holdsArrow id)) two;
       quiet = not-true (holdsArrow id) (and-right (all black id) (not (holdsArrow id)) two);
-      width = up-to-100 (word 2 w) (and-left (hundred 2) (hundred 4 && (hundred 5 && (hundred 6 && hundred 7))) three);
-      lines = leb-true (word 3 w) maxLine (ts .1 .1 .1 .0);
-      anchor = record {
-        x = up-to-100 (word 4 w) (and-left (hundred 4) (hundred 5 && (hundred 6 && hundred 7)) from4);
-        y = up-to-100 (word 5 w) (and-left (hundred 5) (hundred 6 && hundred 7) from5);
-      };
-      viewport = record {
-        x = up-to-100 (word 6 w) (and-left (hundred 6) (hundred 7) from6);
-        y = up-to-100 (word 7 w) (and-right (hundred 6) (hundred 7) from6);
-      };
+      width = up-to-100 (r .width) (and-left width (ax && (ay && (vx && vy))) three);
+      lines = leb-true (r .lines) maxLine (ts .1 .1 .1 .0);
+      anchor = record { x = up-to-100 (r .anchor .x) (and-left ax (ay && (vx && vy)) from-ax); y = up-to-100 (r .anchor .y) (and-left ay (vx && vy) from-ay) };
+      viewport = record { x = up-to-100 (r .viewport .x) (and-left vx vy from-vx); y = up-to-100 (r .viewport .y) (and-right vx vy from-vx) };
     }

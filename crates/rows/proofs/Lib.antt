@@ -1,2 +1,2 @@
--- Laws that the functions' proofs cite, and the law that coding and decoding are inverse.
+-- Laws that the functions' proofs cite.
 pub mod RowLaws

@@ -1,17 +1,16 @@
-// The choices that words name, one function for each choice, and the tests that each code of a row names one.
+// The choices that words name, one function for each choice. A word that names none is not asked for.
 use format::regions::Scroll;
 use format::rows::RegionIndex;
 use format::settings::Align;
 use format::settings::Direction;
 use format::settings::Line;
 use format::settings::LineAlign;
-use format::settings::LinePlace;
 use format::settings::Position;
 use format::settings::PositionAlign;
-use format::settings::PositionPlace;
 ghost use mathlib.Core.Path.{_≡_};
-ghost use Rattle.format.specs.Rows.{directionOf, lineOf, lineAlignOf, positionOf, positionAlignOf, alignOf, regionIndexOf, scrollOf, cueCodesNamed};
-ghost use Rattle.rows.specs.Places.{linePlaceOf, positionPlaceOf};
+ghost use mathlib.Core.Bool.{_&&_};
+ghost use lib.Dec.{eqb, ltb};
+ghost use Rattle.format.specs.Rows.{directionOf, lineOf, lineAlignOf, positionOf, positionAlignOf, alignOf, regionIndexOf, scrollOf};
 
 pub fn direction(n: u64) -> Direction
     ensures { λ r. ⌜ r ≡ directionOf n ⌝ }
@@ -23,13 +22,20 @@ pub fn direction(n: u64) -> Direction
     }
 }
 
+// Does this code with this number name a line below 0. Minus zero is 0.
+fn is_below(n: u64, number: u64) -> bool
+    ensures { λ r. ⌜ r ≡ (eqb n 2 && ltb 0 number) ⌝ }
+{
+    n == 2 && 0 < number
+}
+
 pub fn line(n: u64, number: u64) -> Line
     ensures { λ r. ⌜ r ≡ lineOf n number ⌝ }
 {
     match n {
         0 => Line::Auto,
         _ => Line::At {
-            negative: n == 2,
+            negative: is_below(n, number),
             millionths: number,
         },
     }
@@ -93,49 +99,4 @@ pub fn scroll(n: u64) -> Scroll
         0 => Scroll::None,
         _ => Scroll::Up,
     }
-}
-
-// A cue's line and position, of its row; each a function, since one for the whole row takes long to prove.
-pub fn line_place(row: [u64; 17]) -> LinePlace
-    ensures { λ r. ⌜ r ≡ linePlaceOf row ⌝ }
-{
-    LinePlace {
-        line: line(row[7], row[8]),
-        snap: row[9] == 0,
-        align: line_align(row[10]),
-    }
-}
-
-pub fn position_place(row: [u64; 17]) -> PositionPlace
-    ensures { λ r. ⌜ r ≡ positionPlaceOf row ⌝ }
-{
-    PositionPlace {
-        position: position(row[11], row[12]),
-        align: position_align(row[13]),
-    }
-}
-
-// Does each code of a cue's row name a choice.
-pub fn are_named(row: [u64; 17]) -> bool
-    ensures { λ r. ⌜ r ≡ cueCodesNamed row ⌝ }
-{
-    if 3 <= row[6] {
-        return false;
-    }
-    if 3 <= row[7] {
-        return false;
-    }
-    if 2 <= row[9] {
-        return false;
-    }
-    if 3 <= row[10] {
-        return false;
-    }
-    if 2 <= row[11] {
-        return false;
-    }
-    if 4 <= row[13] {
-        return false;
-    }
-    row[15] < 5
 }

@@ -1,18 +1,19 @@
-// Rows of the lent tables, coded and decoded. Any row is taken.
+// Rows of the lent tables, coded here and decoded in `cues`, `regions` and `styles`: all other code knows them by these functions alone. Any row is
+// taken.
 mod choices;
+pub mod cues;
+pub mod regions;
+pub mod styles;
 mod words;
 
-use format::regions::Point;
 use format::regions::Region;
-use format::rows::CueDecoded;
-use format::rows::CueEntry;
-use format::rows::RegionDecoded;
+use format::rows::*;
 use format::settings::Span;
 ghost use mathlib.Core.Path.{_≡_};
-ghost use Rattle.format.specs.Rows.{cueWords, regionWords, styleWords, cueOfRow, regionRecord, regionOfRow};
+ghost use Rattle.format.specs.Rows.{cueWords, newCueWords, regionWords, styleWords, cueEntry, newCueEntry, newCueName, cueCodesNamed};
 
 // The row of a cue.
-pub fn cue_row(entry: CueEntry) -> [u64; 17]
+pub fn cue_row(entry: CueEntry) -> CueRow
     ensures { λ r. ⌜ r ≡ cueWords entry ⌝ }
 {
     let vertical = entry.vertical;
@@ -46,7 +47,7 @@ pub fn cue_row(entry: CueEntry) -> [u64; 17]
 }
 
 // The row of a region.
-pub fn region_row(region: Region) -> [u64; 9]
+pub fn region_row(region: Region) -> RegionRow
     ensures { λ r. ⌜ r ≡ regionWords region ⌝ }
 {
     let scroll = region.scroll;
@@ -64,68 +65,78 @@ pub fn region_row(region: Region) -> [u64; 9]
 }
 
 // The row of a style text.
-pub fn style_row(text: Span) -> [u64; 2]
+pub fn style_row(text: Span) -> StyleRow
     ensures { λ r. ⌜ r ≡ styleWords text ⌝ }
 {
     [text.from as u64, text.to as u64]
 }
 
-// What a cue's row says.
-pub fn cue_entry(row: [u64; 17]) -> CueDecoded
-    ensures { λ r. ⌜ r ≡ cueOfRow row ⌝ }
+// The row of a new cue that is lent for a replacement, with the name of its region.
+pub fn new_cue_row(entry: CueEntry, name: Span) -> NewCueRow
+    ensures { λ r. ⌜ r ≡ newCueWords entry name ⌝ }
 {
-    if !choices::are_named(row) {
-        return CueDecoded::Bad;
-    }
-    CueDecoded::Good(CueEntry {
-        id: Span {
-            from: row[0] as usize,
-            to: row[1] as usize,
-        },
-        start: row[2],
-        end: row[3],
-        text: Span {
-            from: row[4] as usize,
-            to: row[5] as usize,
-        },
-        vertical: choices::direction(row[6]),
-        line: choices::line_place(row),
-        position: choices::position_place(row),
-        size: row[14],
-        align: choices::align(row[15]),
-        region: choices::region(row[16]),
-    })
+    let row = cue_row(entry);
+    [
+        row[CUE_ID_FROM],
+        row[CUE_ID_TO],
+        row[CUE_START],
+        row[CUE_END],
+        row[CUE_TEXT_FROM],
+        row[CUE_TEXT_TO],
+        row[CUE_VERTICAL],
+        row[CUE_LINE],
+        row[CUE_LINE_NUMBER],
+        row[CUE_SNAP],
+        row[CUE_LINE_ALIGN],
+        row[CUE_POSITION],
+        row[CUE_POSITION_NUMBER],
+        row[CUE_POSITION_ALIGN],
+        row[CUE_SIZE],
+        row[CUE_ALIGN],
+        name.from as u64,
+        name.to as u64,
+    ]
 }
 
-// A region's row as a record; a code that names no choice is not asked for.
-pub fn region_of(row: [u64; 9]) -> Region
-    ensures { λ r. ⌜ r ≡ regionRecord row ⌝ }
+// The row of a new cue as the row of a cue without a region.
+pub fn cue_of_new(row: NewCueRow) -> CueRow
+    ensures { λ r. ⌜ (cueEntry r ≡ newCueEntry row) × (cueCodesNamed r ≡ cueCodesNamed row) ⌝ }
 {
-    Region {
-        id: Span {
-            from: row[0] as usize,
-            to: row[1] as usize,
-        },
-        width: row[2],
-        lines: row[3],
-        anchor: Point {
-            x: row[4],
-            y: row[5],
-        },
-        viewport: Point {
-            x: row[6],
-            y: row[7],
-        },
-        scroll: choices::scroll(row[8]),
+    [
+        row[CUE_ID_FROM],
+        row[CUE_ID_TO],
+        row[CUE_START],
+        row[CUE_END],
+        row[CUE_TEXT_FROM],
+        row[CUE_TEXT_TO],
+        row[CUE_VERTICAL],
+        row[CUE_LINE],
+        row[CUE_LINE_NUMBER],
+        row[CUE_SNAP],
+        row[CUE_LINE_ALIGN],
+        row[CUE_POSITION],
+        row[CUE_POSITION_NUMBER],
+        row[CUE_POSITION_ALIGN],
+        row[CUE_SIZE],
+        row[CUE_ALIGN],
+        0,
+    ]
+}
+
+pub fn new_cue_name(row: NewCueRow) -> Span
+    ensures { λ r. ⌜ r ≡ newCueName row ⌝ }
+{
+    Span {
+        from: row[NEW_CUE_NAME_FROM] as usize,
+        to: row[NEW_CUE_NAME_TO] as usize,
     }
 }
 
-// What a region's row says.
-pub fn region_entry(row: [u64; 9]) -> RegionDecoded
-    ensures { λ r. ⌜ r ≡ regionOfRow row ⌝ }
+pub fn new_cue_id(row: NewCueRow) -> Span
+    ensures { λ r. ⌜ r ≡ newCueEntry row .id ⌝ }
 {
-    if 2 <= row[8] {
-        return RegionDecoded::Bad;
+    Span {
+        from: row[CUE_ID_FROM] as usize,
+        to: row[CUE_ID_TO] as usize,
     }
-    RegionDecoded::Good(region_of(row))
 }

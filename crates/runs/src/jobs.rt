@@ -1,12 +1,13 @@
 // What the programs do, each with an open file and arrays of its own, as long as the program's.
+use format::rows::*;
 
 // As `inspect`.
 fn list(file: i32) {
     let mut raw = [0u8; 16384];
     let mut text = [0u8; 49152];
-    let mut cues = [[0u64; 17]; 1024];
-    let mut regions = [[0u64; 9]; 1024];
-    let mut styles = [[0u64; 2]; 1024];
+    let mut cues = [[0u64; CUE_WORDS]; 1024];
+    let mut regions = [[0u64; REGION_WORDS]; 1024];
+    let mut styles = [[0u64; STYLE_WORDS]; 1024];
     listing::show_file(
         file,
         &mut raw,
@@ -22,9 +23,9 @@ fn rewrite(file: i32) {
     let mut raw = [0u8; 16384];
     let mut text = [0u8; 49152];
     let mut out = [0u8; 65536];
-    let mut cues = [[0u64; 17]; 1024];
-    let mut regions = [[0u64; 9]; 1024];
-    let mut styles = [[0u64; 2]; 1024];
+    let mut cues = [[0u64; CUE_WORDS]; 1024];
+    let mut regions = [[0u64; REGION_WORDS]; 1024];
+    let mut styles = [[0u64; STYLE_WORDS]; 1024];
     file_rewriting::rewrite_file(
         file,
         &mut raw,

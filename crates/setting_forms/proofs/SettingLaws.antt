@@ -1,6 +1,6 @@
 -- Laws of settings: one behind its space, its value put apart from its name, and settings behind others.
 use Prim.Native.Nat.{ℕ}
-use mathlib.Core.Path.{_≡_, refl}
+use mathlib.Core.Path.{_≡_, refl, ap}
 use mathlib.Core.List.{List, [], _∷_, _++_, append-assoc, append-nil}
 use Rattle.format.specs.Bytes.{space, colon}
 use Rattle.format.specs.Written.{setting, afterSpaces}
@@ -19,3 +19,11 @@ pub puts-setting :
     Puts (afterSpaces (setting name value)) at out m p
 unfolding afterSpaces setting
 puts-setting name f g = puts-as (simp (append-assoc, append-nil)) (f then g)
+
+-- a setting put of a value that the row says
+pub spaced :
+    {A : Type 0} (form : A → List (List ℕ)) {a b : A} {at n : ℕ} {out o : List ℕ}
+    → a ≡ b
+    → Puts (afterSpaces (form a)) at out n o
+    → Puts (afterSpaces (form b)) at out n o
+spaced form e put = puts-as (ap (λ x. afterSpaces (form x)) e) put

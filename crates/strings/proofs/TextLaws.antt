@@ -10,9 +10,8 @@ use lib.ListN.{length, getD, take, drop, length-append, length-take, length-drop
 use lib.Seq.{take-suc, drop-cons, getD-drop}
 use borrow.Author.Tests.{eq-eqb, ne-eqb, le-ltb, ltb-true, ltb-false}
 use Rattle.format.specs.Bytes.{ascii, ampersand, semicolon, fullStop, alphanumeric}
-use Rattle.format.specs.Texts.{same, isEmpty}
+use Rattle.format.specs.Texts.{same, isEmpty, bytesAt}
 use Rattle.format.specs.Lines.{onFirst}
-use Rattle.format.specs.Parts.{bytesAt}
 use Rattle.format.specs.CueText.{escaped, parted, collapsing, collapsedFrom, collapsed}
 use Rattle.format.specs.Trees.{classString}
 use Rattle.tokenizer.specs.Decoding.{added, holding, decodedFrom, decoded}

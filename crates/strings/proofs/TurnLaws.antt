@@ -7,7 +7,7 @@ use native.Mathlib.Omega.{arith}
 use lib.Dec.{ltb}
 use lib.ListN.{length, getD, drop}
 use borrow.Author.Tests.{lt-ltb, ltb-true}
-use Rattle.format.specs.Parts.{bytesAt}
+use Rattle.format.specs.Texts.{bytesAt}
 use Rattle.format.specs.CueText.{collapsed}
 use Rattle.tokenizer.specs.Decoding.{added, decodedFrom, decoded}
 use Rattle.strings.specs.Stores.{Stores, such, one}

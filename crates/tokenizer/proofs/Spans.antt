@@ -10,8 +10,7 @@ use lib.ListN.{length, getD, take, drop}
 use lib.Seq.{take-take, length-take-le, getD-take, drop-cons}
 use borrow.Author.Tests.{eq-eqb, ne-eqb}
 use Rattle.format.specs.Bytes.{fullStop, solidus, less, digit}
-use Rattle.format.specs.Texts.{run, pastRun}
-use Rattle.format.specs.Parts.{bytesAt}
+use Rattle.format.specs.Texts.{run, pastRun, bytesAt}
 use Rattle.format.specs.CueText.{blank, cueTokens}
 use Rattle.laws.proofs.Tests.{by-test}
 use Rattle.laws.proofs.Runs.{RunAt, run-at, run-first, run-after, run-moves, drop-take}

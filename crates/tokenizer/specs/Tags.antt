@@ -6,9 +6,8 @@ use mathlib.Core.List.{List, [], _∷_, _++_}
 use lib.Dec.{eqb}
 use lib.ListN.{length, getD, drop}
 use Rattle.format.specs.Bytes.{fullStop, solidus, space, digit, white}
-use Rattle.format.specs.Texts.{run, pastRun}
+use Rattle.format.specs.Texts.{run, pastRun, bytesAt}
 use Rattle.format.specs.Lines.{onFirst}
-use Rattle.format.specs.Parts.{bytesAt}
 use Rattle.format.specs.CueText.{stringToken, startTag, endTag, timestampTag, blank, collapsed, cueTokens}
 use Rattle.format.specs.CueText as CueText
 use Rattle.format.specs.declared.settings.Span.{Span}

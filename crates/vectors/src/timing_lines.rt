@@ -1,8 +1,7 @@
 // A line read by its first letter, and printed with what was read: T a timestamp, P a percentage, N a line number, C a count of lines,
 // S cue settings, R region settings, L a timing line. Numbers are in milliseconds and millionths.
 use format::regions::Region;
-use format::rows::CueEntry;
-use format::rows::RegionIndex;
+use format::rows::*;
 use format::settings::Settings;
 use format::settings::Span;
 use listing::output;
@@ -92,31 +91,42 @@ fn print_choice(words: &[u8], code: u64, n: u64) {
     }
 }
 
-fn print_line(row: [u64; 17]) {
-    print_choice(b" line auto, line , line -,", row[7], row[8]);
-    output::word(b" snap,,", row[9]);
-    output::word(b" start, center, end,", row[10]);
+fn print_line(row: CueRow) {
+    print_choice(
+        b" line auto, line , line -,",
+        row[CUE_LINE],
+        row[CUE_LINE_NUMBER],
+    );
+    output::word(b" snap,,", row[CUE_SNAP]);
+    output::word(b" start, center, end,", row[CUE_LINE_ALIGN]);
 }
 
-fn print_position(row: [u64; 17]) {
-    print_choice(b" position auto, position ,", row[11], row[12]);
-    output::word(b" auto, line-left, center, line-right,", row[13]);
+fn print_position(row: CueRow) {
+    print_choice(
+        b" position auto, position ,",
+        row[CUE_POSITION],
+        row[CUE_POSITION_NUMBER],
+    );
+    output::word(
+        b" auto, line-left, center, line-right,",
+        row[CUE_POSITION_ALIGN],
+    );
 }
 
 // The choices of a cue's row.
-fn print_cue_row(row: [u64; 17]) {
-    output::word(b"horizontal,rl,lr,", row[6]);
+fn print_cue_row(row: CueRow) {
+    output::word(b"horizontal,rl,lr,", row[CUE_VERTICAL]);
     print_line(row);
     print_position(row);
-    print_labelled(b" size ", row[14]);
+    print_labelled(b" size ", row[CUE_SIZE]);
     output::word(
         b" align start, align center, align end, align left, align right,",
-        row[15],
+        row[CUE_ALIGN],
     );
 }
 
 // The row of a cue that has these settings, and no region, so that each choice is printed by its code.
-fn row_of(settings: Settings) -> [u64; 17] {
+fn row_of(settings: Settings) -> CueRow {
     let vertical = settings.vertical;
     let line = settings.line;
     let position = settings.position;
@@ -143,19 +153,19 @@ fn print_settings(text: &[u8], settings: Settings) {
     print_part(text, region);
 }
 
-fn print_points(row: [u64; 9]) {
-    print_labelled(b" anchor ", row[4]);
-    print_labelled(b",", row[5]);
-    print_labelled(b" viewport ", row[6]);
-    print_labelled(b",", row[7]);
+fn print_points(row: RegionRow) {
+    print_labelled(b" anchor ", row[REGION_ANCHOR_X]);
+    print_labelled(b",", row[REGION_ANCHOR_Y]);
+    print_labelled(b" viewport ", row[REGION_VIEWPORT_X]);
+    print_labelled(b",", row[REGION_VIEWPORT_Y]);
 }
 
 // The numbers and the choice of a region's row.
-fn print_region_row(row: [u64; 9]) {
-    print_labelled(b" width ", row[2]);
-    print_labelled(b" lines ", row[3]);
+fn print_region_row(row: RegionRow) {
+    print_labelled(b" width ", row[REGION_WIDTH]);
+    print_labelled(b" lines ", row[REGION_LINES]);
     print_points(row);
-    output::word(b" none, up,", row[8]);
+    output::word(b" none, up,", row[REGION_SCROLL]);
 }
 
 fn print_region(text: &[u8], region: Region) {

@@ -6,13 +6,9 @@ use mathlib.Core.List.{List, [], _∷_, _++_}
 use mathlib.Core.Option.{Option, none, some}
 use native.Mathlib.Numerals.{add-one}
 use native.Mathlib.Omega.{arith}
-use lib.Dec.{ltb}
 use lib.ListN.{length, getD, drop, drop-of-length-le}
 use lib.Seq.{drop-cons}
 use borrow.Author.Tests.{not-true, not-false}
-use Rattle.format.specs.declared.regions.Scroll.{Scroll}
-use Rattle.format.specs.declared.regions.Scroll.the-variants as Scroll
-use Rattle.format.specs.Rows.{scrollWord}
 use Rattle.format.specs.Writable.{firstFailing, styleFails, regionFails, cueFails}
 use Rattle.format.specs.Writing.{orElse, firstIn}
 use Rattle.writable.specs.Faults.{testNumber}
@@ -23,11 +19,6 @@ failed {r} e f = sym e ∙ not-true r f
 
 pub passed : {r t : Bool} → r ≡ t → not r ≡ false → t ≡ true
 passed {r} e p = sym e ∙ not-false r p
-
--- each scrolling's word is one of those named
-pub scroll-named : (s : Scroll) → ltb (scrollWord s) 2 ≡ true
-scroll-named Scroll.None = refl
-scroll-named Scroll.Up = refl
 
 -- the first failing test among some tests, or else among those behind them
 pub fails-front :

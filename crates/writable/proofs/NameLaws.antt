@@ -9,12 +9,14 @@ use lib.Dec.{leb}
 use lib.ListN.{length, getD, take, drop, length-drop, length-map, List·getD-map}
 use lib.Seq.{take-length}
 use borrow.Author.Tests.{leb-true, leb-false, lt-ltb, le-ltb}
+use Rattle.format.specs.Contents.{optionOf, regionOfEntry, regionOfRow}
+use Rattle.format.specs.Texts.{bytesAt}
 use Rattle.format.specs.RegionSettings.{lastNamed}
-use Rattle.format.specs.Rows.{word, indexIs}
-use Rattle.format.specs.Parts.{bytesAt}
-use Rattle.format.specs.Writable.{optionOf, isIndex, lastOfItsName}
+use Rattle.format.specs.Rows.{regionEntry, indexIs}
+use Rattle.format.specs.Writable.{isIndex, lastOfItsName}
 use Rattle.format.specs.declared.rows.RegionIndex.{RegionIndex}
 use Rattle.laws.proofs.Tests.{by-test}
+use Rattle.laws.proofs.Rows.{option-index}
 use Rattle.values.specs.Tokens.{partOf}
 use Rattle.values.proofs.NumberLaws.{empty-is, is-empty-not}
 use Rattle.lookup.proofs.NameLaws.{take-min}
@@ -32,21 +34,17 @@ bytesAt-partOf s from to =
 
 -- the name of a region's row
 abbrev pub nameAt : List ℕ → List ℕ → List ℕ
-nameAt s row = bytesAt s (word 0 row) (word 1 row)
-
-index-is : (o : Option ℕ) → optionOf (indexIs o) ≡ o
-unfolding optionOf
-index-is none = refl
-index-is (some i) = refl
+nameAt s row = regionOfRow s row .id
 
 module _ (s : List ℕ) (regions : List (List ℕ)) where
-  names-are : map (λ row. partOf s (word 0 row) (word 1 row) .bytes) (take (length regions) regions) ≡ map (nameAt s) regions
+  names-are : map (λ row. partOf s (regionEntry row .id .from) (regionEntry row .id .to) .bytes) (take (length regions) regions) ≡ map (nameAt s) regions
+  unfolding regionOfEntry
   names-are =
-      rw (take-length regions) (ap (λ f. map f regions) (fun-ext (λ row. sym (bytesAt-partOf s (word 0 row) (word 1 row)))))
+      rw (take-length regions) (ap (λ f. map f regions) (fun-ext (λ row. sym (bytesAt-partOf s (regionEntry row .id .from) (regionEntry row .id .to)))))
 
   module _ (i : ℕ) where
     name-is : getD (map (nameAt s) regions) i [] ≡ nameAt s (getD regions i [])
-    unfolding bytesAt
+    unfolding bytesAt regionOfEntry
     name-is = List·getD-map (nameAt s) regions i []
 
     pub no-region : length regions ≤ i → lastOfItsName (map (nameAt s) regions) i ≡ false
@@ -68,10 +66,10 @@ module _ (s : List ℕ) (regions : List (List ℕ)) where
           → (found : RegionIndex)
           → found
           ≡ indexIs
-          (lastNamed 0 (partOf s (word 0 (getD regions i [])) (word 1 (getD regions i [])) .bytes)
-          (map (λ row. partOf s (word 0 row) (word 1 row) .bytes) (take (length regions) regions)))
+          (lastNamed 0 (partOf s (regionEntry (getD regions i []) .id .from) (regionEntry (getD regions i []) .id .to) .bytes)
+          (map (λ row. partOf s (regionEntry row .id .from) (regionEntry row .id .to) .bytes) (take (length regions) regions)))
           → lastOfItsName (map (nameAt s) regions) i ≡ isIndex (optionOf found) i
-      unfolding lastOfItsName
+      unfolding lastOfItsName regionOfEntry
       last-is f found e =
           let row = getD regions i [] in
           rw (
@@ -79,7 +77,7 @@ module _ (s : List ℕ) (regions : List (List ℕ)) where
             name-is,
             is-empty-not (nameAt s row) (omega arith),
             e,
-            index-is,
+            option-index,
             names-are,
-            ← bytesAt-partOf s (word 0 row) (word 1 row),
+            ← bytesAt-partOf s (regionEntry row .id .from) (regionEntry row .id .to),
           )

@@ -3,15 +3,28 @@
 mod texts;
 
 use format::regions::Region;
-use format::rows::RegionDecoded;
+use format::rows::CueRow;
 use format::rows::RegionIndex;
+use format::rows::RegionRow;
+use format::rows::StyleRow;
+use format::settings::Line;
+use format::settings::LineAlign;
+use format::settings::LinePlace;
+use format::settings::Position;
+use format::settings::PositionAlign;
+use format::settings::PositionPlace;
 use format::settings::Span;
 use parts::part_plain;
+ghost use Prim.Native.Nat.{_*_};
 ghost use mathlib.Core.Path.{_≡_};
-ghost use mathlib.Core.List.{[], _∷_, map};
-ghost use Rattle.format.specs.Rows.{regionWords, word};
-ghost use Rattle.format.specs.Parts.{bytesAt, cueTest1};
-ghost use Rattle.format.specs.Writable.{firstFailing, is100, lineFits, positionFits, lastOfItsName, cueTest2, cueTest3, cueTest4, cueTest5, cueTest6, cueFails, regionTest3, regionFails, styleFails};
+ghost use mathlib.Core.Bool.{cond, not, _&&_};
+ghost use mathlib.Core.List.{[], _∷_};
+ghost use lib.Dec.{leb};
+ghost use Rattle.format.specs.Limits.{maxLine};
+ghost use Rattle.format.specs.Texts.{bytesAt};
+ghost use Rattle.format.specs.Rows.{cueEntry};
+ghost use Rattle.format.specs.Contents.{optionOf, regionOfEntry, cueOfRow};
+ghost use Rattle.format.specs.Writable.{firstFailing, atMost100, isStart, isAuto, lineFits, positionFits, lastOfItsName, namesOf, cueTest1, cueTest2, cueTest3, cueTest4, cueTest5, cueTest6, cueTests, cueFails, regionTest1, regionTest3, regionTests, regionFails, styleFails};
 ghost use Rattle.format.specs.Writing.{firstIn};
 ghost use Rattle.writable.specs.Faults.{testNumber, faultIs};
 
@@ -31,55 +44,51 @@ pub fn part<'a>(text: &'a [u8], from: usize, to: usize) -> &'a [u8]
 }
 
 // The first test that a style fails; 0 where it is writable.
-fn style_test(text: &[u8], row: [u64; 2]) -> usize
+fn style_test(text: &[u8], row: StyleRow) -> usize
     ensures { λ r. ⌜ r ≡ testNumber (styleFails (now (text .entry)) row) ⌝ }
 {
-    let from = row[0] as usize;
-    let to = row[1] as usize;
-    if !part_plain(text, from, to) {
+    let place = rows::styles::text(row);
+    if !part_plain(text, place.from, place.to) {
         return 1;
     }
-    if !texts::is_unbroken(part(text, from, to)) {
+    if !texts::is_unbroken(part(text, place.from, place.to)) {
         return 2;
     }
     0
 }
 
-fn is_100(n: u64) -> bool
-    ensures { λ r. ⌜ r ≡ is100 n ⌝ }
+fn at_most_100(n: u64) -> bool
+    ensures { λ r. ⌜ r ≡ atMost100 n ⌝ }
 {
     n <= 100_000_000
 }
 
 // Do a region's percentages lie in 0 to 100.
 fn percentages_fit(region: Region) -> bool
-    ensures { λ r. ⌜ r ≡ regionTest3 (regionWords region) ⌝ }
+    ensures { λ r. ⌜ r ≡ regionTest3 (region .width) (region .anchor) (region .viewport) ⌝ }
 {
     let anchor = region.anchor;
     let viewport = region.viewport;
-    if !is_100(region.width) {
+    if !at_most_100(region.width) {
         return false;
     }
-    if !is_100(anchor.x) {
+    if !at_most_100(anchor.x) {
         return false;
     }
-    if !is_100(anchor.y) {
+    if !at_most_100(anchor.y) {
         return false;
     }
-    if !is_100(viewport.x) {
+    if !at_most_100(viewport.x) {
         return false;
     }
-    is_100(viewport.y)
+    at_most_100(viewport.y)
 }
 
-// The first test that a region fails; 0 where it is writable.
-fn region_test(text: &[u8], region: Region) -> usize
-    ensures { λ r. ⌜ r ≡ testNumber (regionFails (now (text .entry)) (regionWords region)) ⌝ }
+// A region's tests 2 to 4: the first that fails, or 0.
+fn region_values_test(text: &[u8], region: Region) -> usize
+    ensures { λ r. ⌜ r ≡ testNumber (firstFailing 2 (regionTests (regionOfEntry (now (text .entry)) region))) ⌝ }
 {
     let id = region.id;
-    if !part_plain(text, id.from, id.to) {
-        return 1;
-    }
     if !texts::is_region_identifier(part(text, id.from, id.to)) {
         return 2;
     }
@@ -92,72 +101,115 @@ fn region_test(text: &[u8], region: Region) -> usize
     0
 }
 
-// The same of a region's row: a code that names no choice fails test 1.
-fn region_row_test(text: &[u8], row: [u64; 9]) -> usize
+// A region's test 1, of its row.
+fn region_test_1(text: &[u8], row: RegionRow) -> bool
+    ensures { λ r. ⌜ r ≡ regionTest1 (now (text .entry)) row ⌝ }
+{
+    let id = rows::regions::id(row);
+    if !part_plain(text, id.from, id.to) {
+        return false;
+    }
+    rows::regions::are_named(row)
+}
+
+// The first test that a region fails; 0 where it is writable.
+fn region_test(text: &[u8], row: RegionRow) -> usize
     ensures { λ r. ⌜ r ≡ testNumber (regionFails (now (text .entry)) row) ⌝ }
 {
-    match rows::region_entry(row) {
-        RegionDecoded::Bad => 1,
-        RegionDecoded::Good(region) => region_test(text, region),
+    if !region_test_1(text, row) {
+        return 1;
     }
+    region_values_test(text, rows::regions::entry(row))
 }
 
 // A cue's test 4.
-fn times_fit(row: [u64; 17]) -> bool
-    ensures { λ r. ⌜ r ≡ cueTest4 row ⌝ }
+fn times_fit(start: u64, end: u64) -> bool
+    ensures { λ r. ⌜ r ≡ cueTest4 start end ⌝ }
 {
-    row[2] < row[3] && row[3] < 360_000_000_000
+    start < end && end < 360_000_000_000
 }
 
-fn line_fits(row: [u64; 17]) -> bool
-    ensures { λ r. ⌜ r ≡ lineFits row ⌝ }
+// Is a line's alignment the opening one, and does the line snap to lines.
+fn is_opening(align: LineAlign, snap: bool) -> bool
+    ensures { λ r. ⌜ r ≡ (isStart align && snap) ⌝ }
 {
-    if row[7] == 0 {
-        return row[10] == 0 && row[9] == 0;
+    match align {
+        LineAlign::Start => snap,
+        LineAlign::Center => false,
+        LineAlign::End => false,
     }
-    if row[9] == 0 {
-        return row[8] <= 999_999_000_000;
+}
+
+// A line that snaps to lines is a number, and any other a percentage.
+fn line_number_fits(snap: bool, negative: bool, n: u64) -> bool
+    ensures { λ r. ⌜ r ≡ cond snap (leb n (maxLine * 1_000_000)) (atMost100 n && not negative) ⌝ }
+{
+    if snap {
+        return n <= 999_999_000_000;
     }
-    if !is_100(row[8]) {
+    if !at_most_100(n) {
         return false;
     }
-    row[7] == 1 || row[8] == 0
+    !negative
 }
 
-fn position_fits(row: [u64; 17]) -> bool
-    ensures { λ r. ⌜ r ≡ positionFits row ⌝ }
+fn line_fits(place: LinePlace) -> bool
+    ensures { λ r. ⌜ r ≡ lineFits place ⌝ }
 {
-    if row[11] == 0 {
-        return row[13] == 0;
+    let line = place.line;
+    let align = place.align;
+    match line {
+        Line::Auto => is_opening(align, place.snap),
+        Line::At {
+            negative,
+            millionths,
+        } => line_number_fits(place.snap, negative, millionths),
     }
-    is_100(row[12])
+}
+
+fn is_auto(align: PositionAlign) -> bool
+    ensures { λ r. ⌜ r ≡ isAuto align ⌝ }
+{
+    match align {
+        PositionAlign::Auto => true,
+        PositionAlign::LineLeft => false,
+        PositionAlign::Center => false,
+        PositionAlign::LineRight => false,
+    }
+}
+
+fn position_fits(place: PositionPlace) -> bool
+    ensures { λ r. ⌜ r ≡ positionFits place ⌝ }
+{
+    let position = place.position;
+    let align = place.align;
+    match position {
+        Position::Auto => is_auto(align),
+        Position::At(n) => at_most_100(n),
+    }
 }
 
 // A cue's test 5.
-fn numbers_fit(row: [u64; 17]) -> bool
-    ensures { λ r. ⌜ r ≡ cueTest5 row ⌝ }
+fn numbers_fit(row: CueRow) -> bool
+    ensures { λ r. ⌜ r ≡ cueTest5 (cueEntry row .line) (cueEntry row .position) (cueEntry row .size) ⌝ }
 {
-    if !line_fits(row) {
+    if !line_fits(rows::cues::line(row)) {
         return false;
     }
-    if !position_fits(row) {
+    if !position_fits(rows::cues::position(row)) {
         return false;
     }
-    is_100(row[14])
+    at_most_100(rows::cues::size(row))
 }
 
 // Is the region with this index in the list, has it an identifier, and is it the last with it.
-fn is_last_of_its_name(text: &[u8], regions: &[[u64; 9]], index: usize) -> bool
-    ensures { λ r. ⌜ r ≡ lastOfItsName (map (λ row. bytesAt (now (text .entry)) (word 0 row) (word 1 row)) (now (regions .entry))) index ⌝ }
+fn is_last_of_its_name(text: &[u8], regions: &[RegionRow], index: usize) -> bool
+    ensures { λ r. ⌜ r ≡ lastOfItsName (namesOf (now (text .entry)) (now (regions .entry))) index ⌝ }
 {
     if regions.len() <= index {
         return false;
     }
-    let row = regions[index];
-    let name = Span {
-        from: row[0] as usize,
-        to: row[1] as usize,
-    };
+    let name = rows::regions::id(regions[index]);
     if part(text, name.from, name.to).len() == 0 {
         return false;
     }
@@ -168,46 +220,43 @@ fn is_last_of_its_name(text: &[u8], regions: &[[u64; 9]], index: usize) -> bool
 }
 
 // A cue's test 6.
-fn region_fits(text: &[u8], regions: &[[u64; 9]], row: [u64; 17]) -> bool
-    ensures { λ r. ⌜ r ≡ cueTest6 (now (text .entry)) (now (regions .entry)) row ⌝ }
+fn region_fits(text: &[u8], regions: &[RegionRow], region: RegionIndex) -> bool
+    ensures { λ r. ⌜ r ≡ cueTest6 (namesOf (now (text .entry)) (now (regions .entry))) (optionOf region) ⌝ }
 {
-    let region = row[16];
-    if region == 0 {
+    match region {
+        RegionIndex::None => true,
+        RegionIndex::At(index) => is_last_of_its_name(text, regions, index as usize),
+    }
+}
+
+// A cue's test 3.
+fn text_fits(s: &[u8]) -> bool
+    ensures { λ r. ⌜ r ≡ cueTest3 (now (s .entry)) ⌝ }
+{
+    if s.len() == 0 {
         return true;
     }
-    let index = region - 1;
-    is_last_of_its_name(text, regions, index as usize)
+    texts::is_unbroken(s)
 }
 
-// A cue's tests 2 and 3: the first that fails, or 0.
-fn cue_parts_test(text: &[u8], row: [u64; 17]) -> usize
-    ensures { λ r. ⌜ r ≡ testNumber (firstFailing 2 (cueTest2 (now (text .entry)) row ∷ cueTest3 (now (text .entry)) row ∷ [])) ⌝ }
+// A cue's tests 2 and 3, of the places of its parts: the first that fails, or 0.
+fn cue_parts_test(text: &[u8], id: Span, words: Span) -> usize
+    ensures { λ r. ⌜ r ≡ testNumber (firstFailing 2 (cueTest2 (bytesAt (now (text .entry)) (id .from) (id .to)) ∷ cueTest3 (bytesAt (now (text .entry)) (words .from) (words .to)) ∷ [])) ⌝ }
 {
-    if !texts::is_identifier(part(text, row[0] as usize, row[1] as usize)) {
+    if !texts::is_identifier(part(text, id.from, id.to)) {
         return 2;
     }
-    let words = part(text, row[4] as usize, row[5] as usize);
-    if words.len() == 0 {
-        return 0;
+    if !text_fits(part(text, words.from, words.to)) {
+        return 3;
     }
-    if texts::is_unbroken(words) {
-        return 0;
-    }
-    3
+    0
 }
 
-// The first of a cue's tests 1 to 5, which do not look at its region, that fails; 0 where none does.
-pub fn cue_fields_test(text: &[u8], row: [u64; 17]) -> usize
-    ensures { λ r. ⌜ r ≡ testNumber (firstFailing 1 (cueTest1 (now (text .entry)) row ∷ cueTest2 (now (text .entry)) row ∷ cueTest3 (now (text .entry)) row ∷ cueTest4 row ∷ cueTest5 row ∷ [])) ⌝ }
+// A cue's tests 4 and 5: the first that fails, or 0.
+fn cue_numbers_test(row: CueRow) -> usize
+    ensures { λ r. ⌜ r ≡ testNumber (firstFailing 4 (cueTest4 (cueEntry row .start) (cueEntry row .end) ∷ cueTest5 (cueEntry row .line) (cueEntry row .position) (cueEntry row .size) ∷ [])) ⌝ }
 {
-    if !parts::test_1(text, row) {
-        return 1;
-    }
-    let parts = cue_parts_test(text, row);
-    if parts != 0 {
-        return parts;
-    }
-    if !times_fit(row) {
+    if !times_fit(rows::cues::start(row), rows::cues::end(row)) {
         return 4;
     }
     if !numbers_fit(row) {
@@ -216,22 +265,36 @@ pub fn cue_fields_test(text: &[u8], row: [u64; 17]) -> usize
     0
 }
 
+// The first of a cue's tests 1 to 5, which do not look at its region, that fails; 0 where none does.
+pub fn cue_fields_test(text: &[u8], row: CueRow) -> usize
+    ensures { λ r. ⌜ r ≡ testNumber (firstFailing 1 (cueTest1 (now (text .entry)) row ∷ cueTests (cueOfRow (now (text .entry)) row))) ⌝ }
+{
+    if !parts::test_1(text, row) {
+        return 1;
+    }
+    let parts = cue_parts_test(text, rows::cues::id(row), rows::cues::text(row));
+    if parts != 0 {
+        return parts;
+    }
+    cue_numbers_test(row)
+}
+
 // The first test that a cue fails; 0 where it is writable.
-fn cue_test(text: &[u8], regions: &[[u64; 9]], row: [u64; 17]) -> usize
+fn cue_test(text: &[u8], regions: &[RegionRow], row: CueRow) -> usize
     ensures { λ r. ⌜ r ≡ testNumber (cueFails (now (text .entry)) (now (regions .entry)) row) ⌝ }
 {
     let fields = cue_fields_test(text, row);
     if fields != 0 {
         return fields;
     }
-    if !region_fits(text, regions, row) {
+    if !region_fits(text, regions, rows::cues::region(row)) {
         return 6;
     }
     0
 }
 
 // The first style that is not writable.
-pub fn first_style(text: &[u8], styles: &[[u64; 2]]) -> Fault
+pub fn first_style(text: &[u8], styles: &[StyleRow]) -> Fault
     ensures { λ r. ⌜ faultIs 0 r ≡ firstIn 0 (styleFails (now (text .entry))) 0 (now (styles .entry)) ⌝ }
 {
     let mut i = 0;
@@ -246,12 +309,12 @@ pub fn first_style(text: &[u8], styles: &[[u64; 2]]) -> Fault
 }
 
 // The first region that is not writable.
-pub fn first_region(text: &[u8], regions: &[[u64; 9]]) -> Fault
+pub fn first_region(text: &[u8], regions: &[RegionRow]) -> Fault
     ensures { λ r. ⌜ faultIs 1 r ≡ firstIn 1 (regionFails (now (text .entry))) 0 (now (regions .entry)) ⌝ }
 {
     let mut i = 0;
     while i < regions.len() {
-        let test = region_row_test(text, regions[i]);
+        let test = region_test(text, regions[i]);
         if test != 0 {
             return Fault::At { index: i, test };
         }
@@ -261,7 +324,7 @@ pub fn first_region(text: &[u8], regions: &[[u64; 9]]) -> Fault
 }
 
 // The first cue that is not writable, among these regions.
-pub fn first_cue(text: &[u8], regions: &[[u64; 9]], cues: &[[u64; 17]]) -> Fault
+pub fn first_cue(text: &[u8], regions: &[RegionRow], cues: &[CueRow]) -> Fault
     ensures { λ r. ⌜ faultIs 2 r ≡ firstIn 2 (cueFails (now (text .entry)) (now (regions .entry))) 0 (now (cues .entry)) ⌝ }
 {
     let mut i = 0;

@@ -7,8 +7,7 @@ use lib.ListN.{length, getD, drop, drop-of-length-le}
 use lib.Seq.{drop-cons}
 use Rattle.format.specs.Bytes.{ascii, lf}
 use Rattle.format.specs.Lines.{split, endedLines, join}
-use Rattle.format.specs.Contents.{CueContents, RegionContents}
-use Rattle.format.specs.Writable.{cueOfWords, regionOfWords, styleOfWords, contentsOfRows}
+use Rattle.format.specs.Contents.{CueContents, RegionContents, contentsOfRows, cueOfRow, regionOfRow, styleOfRow}
 use Rattle.format.specs.Writing.{fileOf}
 use Rattle.format.specs.Written.{writtenTiming, linesOf, cueLines, regionLines, styleLines, apart, fileLines, lineEnded, written}
 use Rattle.output.specs.Puts.{Puts}
@@ -88,15 +87,15 @@ pub file-form :
     → fileOf s styles regions cues
     ≡ ascii "WEBVTT"
     ++ lf ∷ []
-    ++ tableForm (λ row. styleLines (styleOfWords s row)) styles
-    ++ tableForm (λ row. regionLines (regionOfWords s row)) regions
-    ++ tableForm (λ row. cueLines (map (regionOfWords s) regions) (cueOfWords s row)) cues
+    ++ tableForm (λ row. styleLines (styleOfRow s row)) styles
+    ++ tableForm (λ row. regionLines (regionOfRow s row)) regions
+    ++ tableForm (λ row. cueLines (map (regionOfRow s) regions) (cueOfRow s row)) cues
 unfolding fileOf contentsOfRows written fileLines lineEnded
 file-form s styles regions cues =
-    let rs = map (regionOfWords s) regions in
-    let first = map styleLines (map (styleOfWords s) styles) in
+    let rs = map (regionOfRow s) regions in
+    let first = map styleLines (map (styleOfRow s) styles) in
     let second = map regionLines rs in
-    let third = map (cueLines rs) (map (cueOfWords s) cues) in
+    let third = map (cueLines rs) (map (cueOfRow s) cues) in
     ap (λ r. ascii "WEBVTT" ++ lf ∷ r)
     (blocks-append (first ++ second) third ∙ ap (λ r. r ++ lineEnded (apart third)) (blocks-append first second))
-    ∙ rw (map-map styleLines (styleOfWords s) styles, map-map regionLines (regionOfWords s) regions, map-map (cueLines rs) (cueOfWords s) cues) refl
+    ∙ rw (map-map styleLines (styleOfRow s) styles, map-map regionLines (regionOfRow s) regions, map-map (cueLines rs) (cueOfRow s) cues) refl

@@ -4,12 +4,15 @@ mod checking;
 
 use checking::Checked;
 use format::Writing;
+use format::rows::CueRow;
+use format::rows::RegionRow;
+use format::rows::StyleRow;
 use output::byte;
 use output::bytes;
 ghost use mathlib.Core.Path.{_≡_};
 ghost use mathlib.Core.List.{map};
 ghost use lib.ListN.{length};
-ghost use Rattle.format.specs.Writable.{cueOfWords, regionOfWords, styleOfWords};
+ghost use Rattle.format.specs.Contents.{cueOfRow, regionOfRow, styleOfRow};
 ghost use Rattle.format.specs.Written.{styleLines, regionLines, cueLines, apart, lineEnded};
 ghost use Rattle.format.specs.Writing.{writingIs, fileOf, writing, writtenRoom};
 ghost use Rattle.output.specs.Puts.{Puts};
@@ -18,9 +21,9 @@ ghost use Rattle.writer.specs.Blocks.{blockForm};
 // The file that rows over a text give, at the start of the output room.
 pub fn write(
     text: &[u8],
-    styles: &[[u64; 2]],
-    regions: &[[u64; 9]],
-    cues: &[[u64; 17]],
+    styles: &[StyleRow],
+    regions: &[RegionRow],
+    cues: &[CueRow],
     out: &mut [u8],
 ) -> Writing
     ensures answer { λ r. ⌜ writingIs r ≡ writing (now (text .entry)) (now (styles .entry)) (now (regions .entry)) (now (cues .entry)) (length (now (out .entry))) ⌝ }
@@ -47,9 +50,9 @@ pub fn write(
 
 fn put_file(
     text: &[u8],
-    styles: &[[u64; 2]],
-    regions: &[[u64; 9]],
-    cues: &[[u64; 17]],
+    styles: &[StyleRow],
+    regions: &[RegionRow],
+    cues: &[CueRow],
     out: &mut [u8],
 ) -> usize
     ensures { λ r. ⌜ Puts (fileOf (now (text .entry)) (now (styles .entry)) (now (regions .entry)) (now (cues .entry))) 0 (now (out .entry)) r (now (out .exit)) ⌝ }
@@ -61,32 +64,32 @@ fn put_file(
 }
 
 // A style's block: an empty line before it, its last line ended.
-fn style_block(text: &[u8], row: [u64; 2], out: &mut [u8], at: usize) -> usize
-    ensures { λ r. ⌜ Puts (blockForm (styleLines (styleOfWords (now (text .entry)) row))) at (now (out .entry)) r (now (out .exit)) ⌝ }
+fn style_block(text: &[u8], row: StyleRow, out: &mut [u8], at: usize) -> usize
+    ensures { λ r. ⌜ Puts (blockForm (styleLines (styleOfRow (now (text .entry)) row))) at (now (out .entry)) r (now (out .exit)) ⌝ }
 {
     let start = byte(b'\n', out, at);
     let end = forms::style(text, row, out, start);
     byte(b'\n', out, end)
 }
 
-fn region_block(text: &[u8], row: [u64; 9], out: &mut [u8], at: usize) -> usize
-    ensures { λ r. ⌜ Puts (blockForm (regionLines (regionOfWords (now (text .entry)) row))) at (now (out .entry)) r (now (out .exit)) ⌝ }
+fn region_block(text: &[u8], row: RegionRow, out: &mut [u8], at: usize) -> usize
+    ensures { λ r. ⌜ Puts (blockForm (regionLines (regionOfRow (now (text .entry)) row))) at (now (out .entry)) r (now (out .exit)) ⌝ }
 {
     let start = byte(b'\n', out, at);
-    let end = forms::region(text, rows::region_of(row), out, start);
+    let end = forms::region(text, rows::regions::entry(row), out, start);
     byte(b'\n', out, end)
 }
 
-fn cue_block(text: &[u8], regions: &[[u64; 9]], row: [u64; 17], out: &mut [u8], at: usize) -> usize
-    ensures { λ r. ⌜ Puts (blockForm (cueLines (map (regionOfWords (now (text .entry))) (now (regions .entry))) (cueOfWords (now (text .entry)) row))) at (now (out .entry)) r (now (out .exit)) ⌝ }
+fn cue_block(text: &[u8], regions: &[RegionRow], row: CueRow, out: &mut [u8], at: usize) -> usize
+    ensures { λ r. ⌜ Puts (blockForm (cueLines (map (regionOfRow (now (text .entry))) (now (regions .entry))) (cueOfRow (now (text .entry)) row))) at (now (out .entry)) r (now (out .exit)) ⌝ }
 {
     let start = byte(b'\n', out, at);
     let end = forms::cue(text, regions, row, out, start);
     byte(b'\n', out, end)
 }
 
-fn put_styles(text: &[u8], styles: &[[u64; 2]], out: &mut [u8], at: usize) -> usize
-    ensures { λ r. ⌜ Puts (lineEnded (apart (map (λ row. styleLines (styleOfWords (now (text .entry)) row)) (now (styles .entry))))) at (now (out .entry)) r (now (out .exit)) ⌝ }
+fn put_styles(text: &[u8], styles: &[StyleRow], out: &mut [u8], at: usize) -> usize
+    ensures { λ r. ⌜ Puts (lineEnded (apart (map (λ row. styleLines (styleOfRow (now (text .entry)) row)) (now (styles .entry))))) at (now (out .entry)) r (now (out .exit)) ⌝ }
 {
     let mut i = 0;
     let mut to = at;
@@ -97,8 +100,8 @@ fn put_styles(text: &[u8], styles: &[[u64; 2]], out: &mut [u8], at: usize) -> us
     to
 }
 
-fn put_regions(text: &[u8], regions: &[[u64; 9]], out: &mut [u8], at: usize) -> usize
-    ensures { λ r. ⌜ Puts (lineEnded (apart (map (λ row. regionLines (regionOfWords (now (text .entry)) row)) (now (regions .entry))))) at (now (out .entry)) r (now (out .exit)) ⌝ }
+fn put_regions(text: &[u8], regions: &[RegionRow], out: &mut [u8], at: usize) -> usize
+    ensures { λ r. ⌜ Puts (lineEnded (apart (map (λ row. regionLines (regionOfRow (now (text .entry)) row)) (now (regions .entry))))) at (now (out .entry)) r (now (out .exit)) ⌝ }
 {
     let mut i = 0;
     let mut to = at;
@@ -109,14 +112,8 @@ fn put_regions(text: &[u8], regions: &[[u64; 9]], out: &mut [u8], at: usize) -> 
     to
 }
 
-fn put_cues(
-    text: &[u8],
-    regions: &[[u64; 9]],
-    cues: &[[u64; 17]],
-    out: &mut [u8],
-    at: usize,
-) -> usize
-    ensures { λ r. ⌜ Puts (lineEnded (apart (map (λ row. cueLines (map (regionOfWords (now (text .entry))) (now (regions .entry))) (cueOfWords (now (text .entry)) row)) (now (cues .entry))))) at (now (out .entry)) r (now (out .exit)) ⌝ }
+fn put_cues(text: &[u8], regions: &[RegionRow], cues: &[CueRow], out: &mut [u8], at: usize) -> usize
+    ensures { λ r. ⌜ Puts (lineEnded (apart (map (λ row. cueLines (map (regionOfRow (now (text .entry))) (now (regions .entry))) (cueOfRow (now (text .entry)) row)) (now (cues .entry))))) at (now (out .entry)) r (now (out .exit)) ⌝ }
 {
     let mut i = 0;
     let mut to = at;

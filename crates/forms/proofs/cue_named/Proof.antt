@@ -1,16 +1,21 @@
 -- `forms::cue_named` meets its contract.
+use mathlib.Core.Path.{ap}
+use Rattle.format.specs.Texts.{bytesAt}
 use Rattle.output.proofs.PutLaws.{_then_}
-use Rattle.forms.proofs.FormLaws.{join-cue}
 use Rattle.forms.specs.Forms.{cueForm}
+use Rattle.forms.proofs.FormLaws.{join-cue}
 use borrow.Author.Needs.{needs}
 use Rattle.forms.proofs.cue_named.Statement.{statement}
 use Rattle.forms.proofs.cue_named.Tie as tie
+use Rattle.forms.proofs.line_before.Reads as line-before-reads
+use Rattle.forms.proofs.line_behind.Reads as line-behind-reads
+use Rattle.forms.proofs.timing_line.Reads as timing-line-reads
+use Rattle.rows.proofs.cues.id.Reads as id-reads
+use Rattle.rows.proofs.cues.text.Reads as text-reads
+use Rattle.writable.proofs.part.Reads as part-reads
 
-array-read-part : tie.Need-array-read-part
-array-read-part c = search needs
-
-array-read-part-2 : tie.Need-array-read-part-2
-array-read-part-2 c = search needs
+id-requires : tie.Need-id-requires
+id-requires c κs = search needs
 
 part-requires : tie.Need-part-requires
 part-requires c κs = search needs
@@ -21,11 +26,8 @@ line-before-requires c κs = search needs
 timing-line-requires : tie.Need-timing-line-requires
 timing-line-requires c κs = search needs
 
-array-read-part-3 : tie.Need-array-read-part-3
-array-read-part-3 c = search needs
-
-array-read-part-4 : tie.Need-array-read-part-4
-array-read-part-4 c = search needs
+text-requires : tie.Need-text-requires
+text-requires c κs = search needs
 
 part-requires-2 : tie.Need-part-requires-2
 part-requires-2 c κs = search needs
@@ -40,21 +42,29 @@ returns : tie.Need-returns
 unfolding cueForm
 returns c =
     let text = c .before .before in
-    let timing = text .before .before .before .before .before in
+    let place = text .before .before .before in
+    let timing = place .before .before .before in
     let id = timing .before .before .before .before in
-    rw (join-cue, ← id .before .before .part .ensures, ← text .before .before .part2 .ensures) (id .line-before .ensures then timing .timing-line .ensures then text .line-behind .ensures)
+    let args = id .before .before .before .before .before .before .before .args in
+    let s = args .text .now in
+    rw (
+      join-cue,
+      ← ap (λ p. bytesAt s (p .from) (p .to)) (id .before .before .before .id .ensures),
+      ← ap (λ p. bytesAt s (p .from) (p .to)) (place .text .ensures),
+      ← id .before .before .part .ensures,
+      ← text .before .before .part2 .ensures,
+    )
+    (id .line-before .ensures then timing .timing-line .ensures then text .line-behind .ensures)
 
 pub cue-named-spec : {M : Type 1} → statement M
 cue-named-spec =
     tie.close
     (tie.spec
-    array-read-part
-    array-read-part-2
+    id-requires
     part-requires
     line-before-requires
     timing-line-requires
-    array-read-part-3
-    array-read-part-4
+    text-requires
     part-requires-2
     line-behind-requires
     same-length

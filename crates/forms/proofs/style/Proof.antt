@@ -1,24 +1,26 @@
 -- `forms::style` meets its contract.
+use mathlib.Core.Path.{ap}
+use Rattle.format.specs.Texts.{bytesAt}
+use Rattle.format.specs.Lines.{join}
+use Rattle.format.specs.Contents.{styleOfEntry}
+use Rattle.format.specs.Written.{styleLines}
 use Rattle.output.proofs.PutLaws.{_then_}
 use Rattle.forms.proofs.FormLaws.{ended-split}
-use Rattle.format.specs.Lines.{join}
-use Rattle.format.specs.Writable.{styleOfWords}
-use Rattle.format.specs.Written.{styleLines}
 use borrow.Author.Needs.{needs}
 use Rattle.forms.proofs.style.Statement.{statement}
 use Rattle.forms.proofs.style.Tie as tie
+use Rattle.output.proofs.bytes.Reads as bytes-reads
+use Rattle.rows.proofs.styles.text.Reads as text-reads
+use Rattle.writable.proofs.part.Reads as part-reads
+
+text-requires : tie.Need-text-requires
+text-requires c κs = search needs
 
 slice-aggregate-bytes : tie.Need-slice-aggregate-bytes
 slice-aggregate-bytes c = search needs
 
 bytes-requires : tie.Need-bytes-requires
 bytes-requires c κs = search needs
-
-array-read-part : tie.Need-array-read-part
-array-read-part c = search needs
-
-array-read-part-2 : tie.Need-array-read-part-2
-array-read-part-2 c = search needs
 
 part-requires : tie.Need-part-requires
 part-requires c κs = search needs
@@ -30,20 +32,26 @@ same-length : tie.Need-same-length
 same-length c = search needs
 
 returns : tie.Need-returns
-unfolding styleLines styleOfWords join
+unfolding styleLines styleOfEntry join
 returns c =
     let text = c .before .before in
     let part = text .before .before in
-    rw (ended-split, ← part .part .ensures) (part .before .before .before .bytes .ensures then text .bytes2 .ensures)
+    let name = part .before .before .before in
+    let args = name .before .before .before .before .before .before .args in
+    rw (
+      ended-split,
+      ← ap (λ p. bytesAt (args .text .now) (p .from) (p .to)) (name .before .before .before .text .ensures),
+      ← part .part .ensures,
+    )
+    (name .bytes .ensures then text .bytes2 .ensures)
 
 pub style-spec : {M : Type 1} → statement M
 style-spec =
     tie.close
     (tie.spec
+    text-requires
     slice-aggregate-bytes
     bytes-requires
-    array-read-part
-    array-read-part-2
     part-requires
     bytes-requires-2
     same-length

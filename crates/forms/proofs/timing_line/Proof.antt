@@ -1,12 +1,19 @@
 -- `forms::timing_line` meets its contract.
-use Rattle.output.proofs.PutLaws.{_then_}
+use mathlib.Core.Path.{ap}
+use Rattle.format.specs.Written.{writtenTime}
+use Rattle.output.proofs.PutLaws.{_then_, puts-as}
 use Rattle.forms.specs.Forms.{timingForm}
 use borrow.Author.Needs.{needs}
 use Rattle.forms.proofs.timing_line.Statement.{statement}
 use Rattle.forms.proofs.timing_line.Tie as tie
+use Rattle.output.proofs.bytes.Reads as bytes-reads
+use Rattle.output.proofs.time.Reads as time-reads
+use Rattle.rows.proofs.cues.end.Reads as end-reads
+use Rattle.rows.proofs.cues.start.Reads as start-reads
+use Rattle.setting_forms.proofs.settings.Reads as settings-reads
 
-array-read-time : tie.Need-array-read-time
-array-read-time c = search needs
+start-requires : tie.Need-start-requires
+start-requires c κs = search needs
 
 time-requires : tie.Need-time-requires
 time-requires c κs = search needs
@@ -17,8 +24,8 @@ slice-aggregate-bytes c = search needs
 bytes-requires : tie.Need-bytes-requires
 bytes-requires c κs = search needs
 
-array-read-time-2 : tie.Need-array-read-time-2
-array-read-time-2 c = search needs
+end-requires : tie.Need-end-requires
+end-requires c κs = search needs
 
 time-requires-2 : tie.Need-time-requires-2
 time-requires-2 c κs = search needs
@@ -34,19 +41,22 @@ unfolding timingForm
 returns c =
     let settings = c .before .before in
     let end = settings .before .before .before .before in
-    let arrow = end .before .before .before .before in
+    let arrow = end .before .before .before .before .before in
     let start = arrow .before .before .before .before .before in
-    start .time .ensures then arrow .bytes .ensures then end .time2 .ensures then settings .settings .ensures
+    puts-as (ap writtenTime (start .before .before .start .ensures)) (start .time .ensures)
+    then arrow .bytes .ensures
+    then puts-as (ap writtenTime (end .before .before .end .ensures)) (end .time2 .ensures)
+    then settings .settings .ensures
 
 pub timing-line-spec : {M : Type 1} → statement M
 timing-line-spec =
     tie.close
     (tie.spec
-    array-read-time
+    start-requires
     time-requires
     slice-aggregate-bytes
     bytes-requires
-    array-read-time-2
+    end-requires
     time-requires-2
     settings-requires
     same-length

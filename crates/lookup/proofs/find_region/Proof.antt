@@ -7,7 +7,7 @@ use mathlib.Core.Option.{some}
 use native.Mathlib.Omega.{arith}
 use lib.ListN.{length, take, drop}
 use Rattle.format.specs.RegionSettings.{lastNamed}
-use Rattle.format.specs.Rows.{word}
+use Rattle.format.specs.Rows.{regionEntry}
 use Rattle.values.specs.Tokens.{partOf}
 use Rattle.lookup.proofs.NameLaws.{part-bytes, named-before, take-min}
 use borrow.Author.Needs.{needs}
@@ -16,7 +16,7 @@ use Rattle.lookup.proofs.find_region.Tie as tie
 
 -- the identifier of a row
 abbrev idOf : List ℕ → List ℕ → List ℕ
-idOf s row = partOf s (word 0 row) (word 1 row) .bytes
+idOf s row = partOf s (regionEntry row .id .from) (regionEntry row .id .to) .bytes
 
 abbrev Inv-loop : tie.InvT-loop
 Inv-loop text regions count end start wanted rows k₀ k =

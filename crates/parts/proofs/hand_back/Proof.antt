@@ -4,8 +4,10 @@ use mathlib.Core.Path.{_≡_, sym, _∙_}
 use mathlib.Core.Bool.{true}
 use mathlib.Core.List.{[]}
 use lib.ListN.{length, getD}
+use native.Mathlib.Omega.{arith}
 use borrow.Author.Tests.{lt-ltb, not-true, not-false}
-use Rattle.format.specs.Parts.{bytesAt, cueTest1}
+use Rattle.format.specs.Writable.{cueTest1}
+use Rattle.format.specs.Texts.{bytesAt}
 use Rattle.parts.proofs.PartLaws.{place-inside, none-such, not-writable, handed}
 use borrow.Author.Needs.{needs}
 use Rattle.parts.proofs.hand_back.Statement.{statement}

@@ -1,8 +1,9 @@
 -- `parts::part_plain` meets its contract.
 use borrow.Author.Tests.{lt-leb, le-leb}
 use lib.ListN.{length}
-use Rattle.format.specs.Parts.{bytesAt, partPlain}
 use borrow.Author.Needs.{needs}
+use Rattle.format.specs.Writable.{partPlain}
+use Rattle.format.specs.Texts.{bytesAt}
 use Rattle.parts.proofs.part_plain.Statement.{statement}
 use Rattle.parts.proofs.part_plain.Tie as tie
 

@@ -1,29 +1,41 @@
 -- `parts::test_1` meets its contract.
-use mathlib.Core.Path.{sym, _∙_}
+use mathlib.Core.Path.{_≡_, sym, ap, _∙_}
+use mathlib.Core.Bool.{Bool}
 use borrow.Author.Tests.{not-true, not-false}
-use Rattle.format.specs.Parts.{cueTest1}
 use borrow.Author.Needs.{needs}
+use Rattle.format.specs.Rows.{cueEntry}
+use Rattle.format.specs.Writable.{partPlain, cueTest1}
 use Rattle.parts.proofs.test_1.Statement.{statement}
 use Rattle.parts.proofs.test_1.Tie as tie
 
-array-read-part-plain : tie.Need-array-read-part-plain
-array-read-part-plain c = search needs
+-- what the test of the identifier says, and that of the text
+id-plain :
+    (c : tie.After-part-plain) → let a = c .before .before .before .args in partPlain (a .text .now) (cueEntry (a .row) .id .from) (cueEntry (a .row) .id .to) ≡ c .part-plain .result
+id-plain c =
+    let id = c .before in
+    let a = id .before .before .args in
+    ap (λ p. partPlain (a .text .now) (p .from) (p .to)) (sym (id .id .ensures)) ∙ sym (c .part-plain .ensures)
 
-array-read-part-plain-2 : tie.Need-array-read-part-plain-2
-array-read-part-plain-2 c = search needs
+text-plain :
+    (c : tie.After-part-plain2)
+    → let a = c .before .before .before .before .before .before .args in partPlain (a .text .now) (cueEntry (a .row) .text .from) (cueEntry (a .row) .text .to) ≡ c .part-plain2 .result
+text-plain c =
+    let text = c .before in
+    let a = text .before .before .before .before .before .args in
+    ap (λ p. partPlain (a .text .now) (p .from) (p .to)) (sym (text .text .ensures)) ∙ sym (c .part-plain2 .ensures)
+
+id-requires : tie.Need-id-requires
+id-requires c κs = search needs
 
 part-plain-requires : tie.Need-part-plain-requires
 part-plain-requires c κs = search needs
 
 returns : tie.Need-returns
 unfolding cueTest1
-returns c = let p = c .before .part-plain in rw (sym (p .ensures) ∙ not-true (p .result) (c .if1 .taken))
+returns c = rw (id-plain (c .before) ∙ not-true (c .before .part-plain .result) (c .if1 .taken))
 
-array-read-part-plain-3 : tie.Need-array-read-part-plain-3
-array-read-part-plain-3 c = search needs
-
-array-read-part-plain-4 : tie.Need-array-read-part-plain-4
-array-read-part-plain-4 c = search needs
+text-requires : tie.Need-text-requires
+text-requires c κs = search needs
 
 part-plain-requires-2 : tie.Need-part-plain-requires-2
 part-plain-requires-2 c κs = search needs
@@ -31,20 +43,26 @@ part-plain-requires-2 c κs = search needs
 returns-2 : tie.Need-returns-2
 unfolding cueTest1
 returns-2 c =
-    let p = c .before .before .before .part-plain in
-    let q = c .before .part-plain2 in
-    rw (sym (p .ensures) ∙ not-false (p .result) (c .before .before .if1 .left), sym (q .ensures) ∙ not-true (q .result) (c .if2 .taken))
+    let first = c .before .before .before in
+    rw (
+      id-plain (first .before) ∙ not-false (first .before .part-plain .result) (first .if1 .left),
+      text-plain (c .before) ∙ not-true (c .before .part-plain2 .result) (c .if2 .taken),
+    )
 
-codes-named-requires : tie.Need-codes-named-requires
-codes-named-requires c κs = search needs
+are-named-requires : tie.Need-are-named-requires
+are-named-requires c κs = search needs
 
 returns-3 : tie.Need-returns-3
 unfolding cueTest1
 returns-3 c =
     let out = c .before in
-    let p = out .before .before .before .part-plain in
-    let q = out .before .part-plain2 in
-    rw (sym (p .ensures) ∙ not-false (p .result) (out .before .before .if1 .left), sym (q .ensures) ∙ not-false (q .result) (out .if2 .left), c .codes-named .ensures)
+    let first = out .before .before .before in
+    rw (
+      id-plain (first .before) ∙ not-false (first .before .part-plain .result) (first .if1 .left),
+      text-plain (out .before) ∙ not-false (out .before .part-plain2 .result) (out .if2 .left),
+      c .are-named .ensures,
+    )
 
 pub test-1-spec : {M : Type 1} → statement M
-test-1-spec = tie.close (tie.spec array-read-part-plain array-read-part-plain-2 part-plain-requires returns array-read-part-plain-3 array-read-part-plain-4 part-plain-requires-2 returns-2 codes-named-requires returns-3)
+test-1-spec =
+    tie.close (tie.spec id-requires part-plain-requires returns text-requires part-plain-requires-2 returns-2 are-named-requires returns-3)

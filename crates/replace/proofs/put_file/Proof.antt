@@ -1,5 +1,7 @@
 -- `replace::put_file` meets its contract.
-use mathlib.Core.Path.{_∙_}
+use mathlib.Core.Path.{ap, _∙_}
+use Rattle.format.specs.Texts.{bytesAt}
+use Rattle.format.specs.Replacing.{nameLent}
 use Rattle.output.proofs.PutLaws.{puts-as, _then_}
 use Rattle.replace.specs.NewCue.{inPlace}
 use Rattle.replace.proofs.FileLaws.{front-part, back-part, lent-form}
@@ -7,17 +9,14 @@ use borrow.Author.Needs.{needs}
 use Rattle.replace.proofs.put_file.Statement.{statement}
 use Rattle.replace.proofs.put_file.Tie as tie
 
-array-read-part : tie.Need-array-read-part
-array-read-part c = search needs
-
-array-read-part-2 : tie.Need-array-read-part-2
-array-read-part-2 c = search needs
+new-cue-name-requires : tie.Need-new-cue-name-requires
+new-cue-name-requires c κs = search needs
 
 part-requires : tie.Need-part-requires
 part-requires c κs = search needs
 
-cue-words-requires : tie.Need-cue-words-requires
-cue-words-requires c κs = search needs
+cue-of-new-requires : tie.Need-cue-of-new-requires
+cue-of-new-requires c κs = search needs
 
 part-requires-2 : tie.Need-part-requires-2
 part-requires-2 c κs = search needs
@@ -38,7 +37,7 @@ same-length : tie.Need-same-length
 same-length c = search needs
 
 returns : tie.Need-returns
-unfolding inPlace
+unfolding inPlace nameLent
 returns c =
     let last = c .before .before in
     let back = last .before .before in
@@ -47,9 +46,11 @@ returns c =
     let front = first .before .before in
     let words = front .before in
     let name = words .before in
-    let args = name .before .before .before .before .args in
+    let place = name .before in
+    let args = place .before .before .before .before .args in
+    let lent = name .part .ensures ∙ ap (λ p. bytesAt (args .text .now) (p .from) (p .to)) (place .new-cue-name .ensures) in
     let a = puts-as (front .part2 .ensures ∙ front-part (args .raw .now) (args .start)) (first .bytes .ensures) in
-    let b = puts-as (lent-form (args .text .now) (args .t5) _ _ (words .cue-words .ensures) (name .part .ensures)) (named .cue-named .ensures) in
+    let b = puts-as (lent-form (args .text .now) (args .row) (words .cue-of-new .result) (name .part .result .now) (words .cue-of-new .ensures .0) lent) (named .cue-named .ensures) in
     let d = puts-as (back .part3 .ensures ∙ back-part (args .raw .now) (args .end)) (last .bytes2 .ensures) in
     a then b then d
 
@@ -57,10 +58,9 @@ pub put-file-spec : {M : Type 1} → statement M
 put-file-spec =
     tie.close
     (tie.spec
-    array-read-part
-    array-read-part-2
+    new-cue-name-requires
     part-requires
-    cue-words-requires
+    cue-of-new-requires
     part-requires-2
     bytes-requires
     cue-named-requires

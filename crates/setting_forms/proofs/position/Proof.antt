@@ -3,17 +3,18 @@ use Rattle.format.specs.Bytes.{ascii}
 use Rattle.format.specs.Written.{afterSpaces, writtenPosition}
 use Rattle.output.proofs.PutLaws.{_then_, puts-none}
 use Rattle.setting_forms.proofs.SettingLaws.{puts-setting}
-use borrow.Author.Tests.{ne-eqb, eq-eqb}
 use borrow.Author.Needs.{needs}
 use Rattle.setting_forms.proofs.position.Statement.{statement}
 use Rattle.setting_forms.proofs.position.Tie as tie
+use Rattle.output.proofs.bytes.Reads as bytes-reads
+use Rattle.output.proofs.percentage.Reads as percentage-reads
+use Rattle.setting_forms.proofs.position_align.Reads as position-align-reads
 
-array-read-if1 : tie.Need-array-read-if1
-array-read-if1 c = search needs
+enum-told : tie.Need-enum-told
+enum-told c = search needs
 
-returns : tie.Need-returns
-unfolding afterSpaces writtenPosition
-returns c = rw (eq-eqb _ _ (c .if1 .taken)) (puts-none _ _)
+enum-known-position : tie.Need-enum-known-position
+enum-known-position c = search needs
 
 slice-aggregate-bytes : tie.Need-slice-aggregate-bytes
 slice-aggregate-bytes c = search needs
@@ -21,17 +22,15 @@ slice-aggregate-bytes c = search needs
 bytes-requires : tie.Need-bytes-requires
 bytes-requires c κs = search needs
 
-array-read-percentage : tie.Need-array-read-percentage
-array-read-percentage c = search needs
-
 percentage-requires : tie.Need-percentage-requires
 percentage-requires c κs = search needs
 
-array-read-position-align : tie.Need-array-read-position-align
-array-read-position-align c = search needs
-
 position-align-requires : tie.Need-position-align-requires
 position-align-requires c κs = search needs
+
+returns : tie.Need-returns
+unfolding afterSpaces writtenPosition
+returns c = rw (c .enum-told .given .1) (puts-none _ _)
 
 same-length : tie.Need-same-length
 same-length c = search needs
@@ -42,20 +41,19 @@ returns-2 c =
     let align = c .before .before in
     let number = align .before .before .before .before in
     let name = number .before .before .before .before in
-    rw (ne-eqb _ _ (name .before .before .before .if1 .left))
+    rw (name .before .before .before .before .position .given .1)
     (puts-setting (ascii "position") (name .bytes .ensures) (number .percentage .ensures then align .position-align .ensures))
 
 pub position-spec : {M : Type 1} → statement M
 position-spec =
     tie.close
     (tie.spec
-    array-read-if1
-    returns
+    enum-told
+    enum-known-position
     slice-aggregate-bytes
     bytes-requires
-    array-read-percentage
     percentage-requires
-    array-read-position-align
     position-align-requires
+    returns
     same-length
     returns-2)

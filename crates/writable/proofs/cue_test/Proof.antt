@@ -1,54 +1,78 @@
--- `writable::cue_test` meets its contract: test 6 decides where the others hold.
-use Prim.Native.Nat.{ℕ}
-use mathlib.Core.Path.{_≡_, sym, _∙_}
+-- `writable::cue_test` meets its contract.
+use mathlib.Core.Path.{_≡_, sym, ap, _∙_}
 use mathlib.Core.Bool.{Bool}
 use mathlib.Core.List.{List, [], _∷_}
 use native.Mathlib.Omega.{arith}
-use Rattle.format.specs.Parts.{cueTest1}
-use Rattle.format.specs.Writable.{firstFailing, cueFails, cueTest2, cueTest3, cueTest4, cueTest5, cueTest6}
+use Rattle.format.specs.Rows.{cueEntry}
+use Rattle.format.specs.Contents.{optionOf, cueOfEntry, cueOfRow}
+use Rattle.format.specs.Writable.{firstFailing, namesOf, cueTest1, cueTest6, cueTests, cueFails}
 use Rattle.writable.proofs.FaultLaws.{failed, passed, fails-front, fails-behind}
 use borrow.Author.Needs.{needs}
 use Rattle.writable.proofs.cue_test.Statement.{statement}
 use Rattle.writable.proofs.cue_test.Tie as tie
+use Rattle.rows.proofs.cues.region.Reads as region-reads
+use Rattle.writable.proofs.cue_fields_test.Reads as cue-fields-test-reads
+use Rattle.writable.proofs.region_fits.Reads as region-fits-reads
 
-module _ (s : List ℕ) (row : List ℕ) where
+module _ (c : tie.After-cue-fields-test) where
   abbrev fields : List Bool
-  fields = cueTest1 s row ∷ cueTest2 s row ∷ cueTest3 s row ∷ cueTest4 row ∷ cueTest5 row ∷ []
+  fields =
+      let a = c .before .before .args in
+      cueTest1 (a .text .now) (a .row) ∷ cueTests (cueOfRow (a .text .now) (a .row))
+
+  abbrev last : List Bool
+  last =
+      let a = c .before .before .args in
+      cueTest6 (namesOf (a .text .now) (a .regions .now)) (optionOf (cueEntry (a .row) .region)) ∷ []
 
 -- what is left to test where the fields pass
-behind-fields :
+after-fields :
     (c : tie.Else1)
-    → let a = c .before .before .before .args in
-    firstFailing 6 (cueTest6 (a .text .now) (a .regions .now) (a .row) ∷ []) ≡ cueFails (a .text .now) (a .regions .now) (a .row)
-unfolding cueFails
-behind-fields c =
-    let a = c .before .before .before .args in
-    let s = a .text .now in
-    let last = cueTest6 s (a .regions .now) (a .row) in
-    sym (fails-behind 1 (fields s (a .row)) (last ∷ []) (omega arith) (sym (c .before .cue-fields-test .ensures) ∙ c .if1 .left))
+    → let a = c .before .before .before .args in firstFailing 6 (last (c .before)) ≡ cueFails (a .text .now) (a .regions .now) (a .row)
+unfolding cueFails cueOfEntry cueTests
+after-fields c =
+    let p = c .before in
+    sym (fails-behind 1 (fields p) (last p) (omega arith) (sym (p .cue-fields-test .ensures) ∙ c .if1 .left))
+
+region-is :
+    (c : tie.After-region-fits)
+    → let a = c .before .before .before .before .before .args in
+    c .region-fits .result ≡ cueTest6 (namesOf (a .text .now) (a .regions .now)) (optionOf (cueEntry (a .row) .region))
+region-is c =
+    let a = c .before .before .before .before .before .args in
+    c .region-fits .ensures ∙ ap (λ r. cueTest6 (namesOf (a .text .now) (a .regions .now)) (optionOf r)) (c .before .region .ensures)
 
 cue-fields-test-requires : tie.Need-cue-fields-test-requires
 cue-fields-test-requires c κs = search needs
 
 returns : tie.Need-returns
-unfolding cueFails
+unfolding cueFails cueOfEntry optionOf
 returns c =
-    let found = c .before .cue-fields-test .ensures in
-    let a = c .before .before .before .args in
-    let s = a .text .now in
-    found ∙ fails-front 1 (fields s (a .row)) (cueTest6 s (a .regions .now) (a .row) ∷ []) (λ z. c .if1 .taken (found ∙ z))
+    let p = c .before in
+    let found = p .cue-fields-test .ensures in
+    found ∙ fails-front 1 (fields p) (last p) (λ z. c .if1 .taken (found ∙ z))
+
+region-requires : tie.Need-region-requires
+region-requires c κs = search needs
 
 region-fits-requires : tie.Need-region-fits-requires
 region-fits-requires c κs = search needs
 
 returns-2 : tie.Need-returns-2
 unfolding firstFailing
-returns-2 c = rw (← (behind-fields (c .before .before)), failed (c .before .region-fits .ensures) (c .if2 .taken))
+returns-2 c = rw (← (after-fields (c .before .before .before)), failed (region-is (c .before)) (c .if2 .taken))
 
 returns-3 : tie.Need-returns-3
 unfolding firstFailing
-returns-3 c = rw (← (behind-fields (c .before .before)), passed (c .before .region-fits .ensures) (c .if2 .left))
+returns-3 c = rw (← (after-fields (c .before .before .before)), passed (region-is (c .before)) (c .if2 .left))
 
 pub cue-test-spec : {M : Type 1} → statement M
 cue-test-spec =
-    tie.close (tie.spec cue-fields-test-requires returns region-fits-requires returns-2 returns-3)
+    tie.close
+    (tie.spec
+    cue-fields-test-requires
+    returns
+    region-requires
+    region-fits-requires
+    returns-2
+    returns-3)

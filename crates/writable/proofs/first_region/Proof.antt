@@ -17,18 +17,18 @@ abbrev μ-loop : tie.MeasureT-loop
 loop-holds : tie.Need-loop-holds Inv-loop μ-loop
 loop-holds c = refl
 
-mul-region-row-test : tie.Need-mul-region-row-test Inv-loop μ-loop
-mul-region-row-test c = search needs
+mul-region-test : tie.Need-mul-region-test Inv-loop μ-loop
+mul-region-test c = search needs
 
-shared-slice-copy-out-region-row-test : tie.Need-shared-slice-copy-out-region-row-test Inv-loop μ-loop
-shared-slice-copy-out-region-row-test c = search needs
+shared-slice-copy-out-region-test : tie.Need-shared-slice-copy-out-region-test Inv-loop μ-loop
+shared-slice-copy-out-region-test c = search needs
 
-region-row-test-requires : tie.Need-region-row-test-requires Inv-loop μ-loop
-region-row-test-requires c κs = search needs
+region-test-requires : tie.Need-region-test-requires Inv-loop μ-loop
+region-test-requires c κs = search needs
 
 returns : tie.Need-returns Inv-loop μ-loop
 returns c =
-    let test = c .before .region-row-test in
+    let test = c .before .region-test in
     let turn = c .before .before .before in
     let at = turn .before in
     let a = at .before .before .args in
@@ -43,7 +43,7 @@ loop-less c = search needs
 
 loop-again : tie.Need-loop-again Inv-loop μ-loop
 loop-again c =
-    let test = c .before .region-row-test in
+    let test = c .before .region-test in
     let turn = c .before .before .before in
     let at = turn .before in
     let a = at .before .before .args in
@@ -63,9 +63,9 @@ first-region-spec =
     Inv-loop
     μ-loop
     loop-holds
-    mul-region-row-test
-    shared-slice-copy-out-region-row-test
-    region-row-test-requires
+    mul-region-test
+    shared-slice-copy-out-region-test
+    region-test-requires
     returns
     add-i
     loop-less

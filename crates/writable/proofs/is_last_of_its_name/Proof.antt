@@ -1,54 +1,70 @@
 -- `writable::is_last_of_its_name` meets its contract.
+use Rattle.format.specs.RegionSettings.{lastNamed}
+use Rattle.format.specs.Rows.{regionEntry, indexIs}
+use Rattle.format.specs.Texts.{bytesAt}
+use Rattle.values.specs.Tokens.{partOf}
 use mathlib.Core.Path.{_≡_, sym, ap, _∙_}
-use mathlib.Core.List.{map}
-use lib.ListN.{length}
-use Rattle.format.specs.Writable.{optionOf, isIndex, lastOfItsName}
+use mathlib.Core.List.{[], map}
+use lib.ListN.{length, getD, take}
+use Rattle.format.specs.Contents.{optionOf, regionOfEntry}
+use Rattle.format.specs.Writable.{namesOf, isIndex, lastOfItsName}
 use Rattle.writable.proofs.NameLaws.{nameAt, no-region, no-name, last-is}
 use borrow.Author.Needs.{needs}
 use Rattle.writable.proofs.is_last_of_its_name.Statement.{statement}
 use Rattle.writable.proofs.is_last_of_its_name.Tie as tie
+use Rattle.lookup.proofs.find_region.Reads as find-region-reads
+use Rattle.rows.proofs.regions.id.Reads as id-reads
+use Rattle.writable.proofs.part.Reads as part-reads
+
+-- the name that the code cuts out
+name-is :
+    (c : tie.After-part)
+    → let a = c .before .before .before .before .before .args in c .part .result .now ≡ nameAt (a .text .now) (getD (a .regions .now) (a .index) [])
+unfolding regionOfEntry
+name-is c =
+    let a = c .before .before .before .before .before .args in
+    c .part .ensures ∙ ap (λ p. bytesAt (a .text .now) (p .from) (p .to)) (c .before .id .ensures)
 
 -- the answer, by the index that was found
 answer :
     (c : tie.After-find-region)
-    → let a = c .before .before .before .before .before .before .args in
-    lastOfItsName (map (nameAt (a .text .now)) (a .regions .now)) (a .index) ≡ isIndex (optionOf (c .find-region .result)) (a .index)
+    → let a = c .before .before .before .before .before .before .before .args in
+    lastOfItsName (namesOf (a .text .now) (a .regions .now)) (a .index) ≡ isIndex (optionOf (c .find-region .result)) (a .index)
 answer c =
     let cut = c .before .before in
-    let out = cut .before .before in
+    let out = cut .before .before .before in
     let a = out .before .before .args in
+    let s = a .text .now in
+    let names = map (λ row. partOf s (regionEntry row .id .from) (regionEntry row .id .to) .bytes) (take (length (a .regions .now)) (a .regions .now)) in
     last-is
-    (a .text .now)
+    s
     (a .regions .now)
     (a .index)
     (out .if1 .left)
-    (λ z. c .before .if2 .left (ap length (cut .part .ensures) ∙ z))
+    (λ z. c .before .if2 .left (ap length (name-is cut) ∙ z))
     (c .find-region .result)
-    (c .find-region .ensures)
+    (c .find-region .ensures ∙ ap (λ p. indexIs (lastNamed 0 (partOf s (p .from) (p .to) .bytes) names)) (cut .before .id .ensures))
 
 returns : tie.Need-returns
 returns c = let a = c .before .before .args in sym (no-region (a .text .now) (a .regions .now) (a .index) (c .if1 .taken))
 
-mul-row : tie.Need-mul-row
-mul-row c = search needs
+mul-id : tie.Need-mul-id
+mul-id c = search needs
 
-shared-slice-copy-out-row : tie.Need-shared-slice-copy-out-row
-shared-slice-copy-out-row c = search needs
+shared-slice-copy-out-id : tie.Need-shared-slice-copy-out-id
+shared-slice-copy-out-id c = search needs
 
-array-read-if2 : tie.Need-array-read-if2
-array-read-if2 c = search needs
-
-array-read-find-region : tie.Need-array-read-find-region
-array-read-find-region c = search needs
+id-requires : tie.Need-id-requires
+id-requires c κs = search needs
 
 part-requires : tie.Need-part-requires
 part-requires c κs = search needs
 
 returns-2 : tie.Need-returns-2
 returns-2 c =
-    let out = c .before .before .before in
+    let out = c .before .before .before .before in
     let a = out .before .before .args in
-    sym (no-name (a .text .now) (a .regions .now) (a .index) (out .if1 .left) (sym (ap length (c .before .part .ensures)) ∙ c .if2 .taken))
+    sym (no-name (a .text .now) (a .regions .now) (a .index) (out .if1 .left) (sym (ap length (name-is (c .before))) ∙ c .if2 .taken))
 
 find-region-requires : tie.Need-find-region-requires
 find-region-requires c κs = search needs
@@ -72,10 +88,9 @@ is-last-of-its-name-spec =
     tie.close
     (tie.spec
     returns
-    mul-row
-    shared-slice-copy-out-row
-    array-read-if2
-    array-read-find-region
+    mul-id
+    shared-slice-copy-out-id
+    id-requires
     part-requires
     returns-2
     find-region-requires

@@ -4,7 +4,7 @@ use Prim.Native.Nat.{_-_}
 use mathlib.Core.List.{map}
 use lib.ListN.{length}
 use Rattle.format.specs.Written.{cueLines}
-use Rattle.format.specs.Writable.{cueOfWords, regionOfWords}
+use Rattle.format.specs.Contents.{cueOfRow, regionOfRow}
 use Rattle.output.proofs.PutLaws.{puts-length}
 use Rattle.writer.proofs.BlockLaws.{Left, next-block, last-block, cue-ended}
 use borrow.Author.Needs.{needs}
@@ -12,7 +12,7 @@ use Rattle.writer.proofs.put_cues.Statement.{statement}
 use Rattle.writer.proofs.put_cues.Tie as tie
 
 abbrev Inv-loop : tie.InvT-loop
-Inv-loop text regions cues out₀ at i₀ to₀ out i to = Left (λ row. cueLines (map (regionOfWords text) regions) (cueOfWords text row)) (λ row. cue-ended (map (regionOfWords text) regions) (cueOfWords text row)) cues at out₀ i to out
+Inv-loop text regions cues out₀ at i₀ to₀ out i to = Left (λ row. cueLines (map (regionOfRow text) regions) (cueOfRow text row)) (λ row. cue-ended (map (regionOfRow text) regions) (cueOfRow text row)) cues at out₀ i to out
 
 abbrev μ-loop : tie.MeasureT-loop
 μ-loop text regions cues out₀ at i₀ to₀ out i to = length cues - i
@@ -40,13 +40,13 @@ loop-again c =
     let put = c .before .before in
     let at = put .before .before .before .before in
     let args = at .before .before .before .args in
-    next-block (λ row. cueLines (map (regionOfWords (args .text .now)) (args .regions .now)) (cueOfWords (args .text .now) row)) (λ row. cue-ended (map (regionOfWords (args .text .now)) (args .regions .now)) (cueOfWords (args .text .now) row)) (args .cues .now) (at .loop .inv) (omega arith) (put .cue-block .ensures)
+    next-block (λ row. cueLines (map (regionOfRow (args .text .now)) (args .regions .now)) (cueOfRow (args .text .now) row)) (λ row. cue-ended (map (regionOfRow (args .text .now)) (args .regions .now)) (cueOfRow (args .text .now) row)) (args .cues .now) (at .loop .inv) (omega arith) (put .cue-block .ensures)
 
 whole : tie.Need-returns Inv-loop μ-loop
 whole c =
     let at = c .before in
     let args = at .before .before .before .args in
-    last-block (λ row. cueLines (map (regionOfWords (args .text .now)) (args .regions .now)) (cueOfWords (args .text .now) row)) (λ row. cue-ended (map (regionOfWords (args .text .now)) (args .regions .now)) (cueOfWords (args .text .now) row)) (args .cues .now) (at .loop .inv) (c .loop-test .left)
+    last-block (λ row. cueLines (map (regionOfRow (args .text .now)) (args .regions .now)) (cueOfRow (args .text .now) row)) (λ row. cue-ended (map (regionOfRow (args .text .now)) (args .regions .now)) (cueOfRow (args .text .now) row)) (args .cues .now) (at .loop .inv) (c .loop-test .left)
 
 same-length : tie.Need-same-length Inv-loop μ-loop
 same-length c = puts-length (whole c)

@@ -3,7 +3,7 @@ use native.Mathlib.Omega.{arith}
 use Prim.Native.Nat.{_-_}
 use lib.ListN.{length}
 use Rattle.format.specs.Written.{regionLines}
-use Rattle.format.specs.Writable.{regionOfWords}
+use Rattle.format.specs.Contents.{regionOfRow}
 use Rattle.output.proofs.PutLaws.{puts-length}
 use Rattle.writer.proofs.BlockLaws.{Left, next-block, last-block, region-ended}
 use borrow.Author.Needs.{needs}
@@ -11,7 +11,7 @@ use Rattle.writer.proofs.put_regions.Statement.{statement}
 use Rattle.writer.proofs.put_regions.Tie as tie
 
 abbrev Inv-loop : tie.InvT-loop
-Inv-loop text regions out₀ at i₀ to₀ out i to = Left (λ row. regionLines (regionOfWords text row)) (λ row. region-ended (regionOfWords text row)) regions at out₀ i to out
+Inv-loop text regions out₀ at i₀ to₀ out i to = Left (λ row. regionLines (regionOfRow text row)) (λ row. region-ended (regionOfRow text row)) regions at out₀ i to out
 
 abbrev μ-loop : tie.MeasureT-loop
 μ-loop text regions out₀ at i₀ to₀ out i to = length regions - i
@@ -39,13 +39,13 @@ loop-again c =
     let put = c .before .before in
     let at = put .before .before .before .before in
     let args = at .before .before .before .args in
-    next-block (λ row. regionLines (regionOfWords (args .text .now) row)) (λ row. region-ended (regionOfWords (args .text .now) row)) (args .regions .now) (at .loop .inv) (omega arith) (put .region-block .ensures)
+    next-block (λ row. regionLines (regionOfRow (args .text .now) row)) (λ row. region-ended (regionOfRow (args .text .now) row)) (args .regions .now) (at .loop .inv) (omega arith) (put .region-block .ensures)
 
 whole : tie.Need-returns Inv-loop μ-loop
 whole c =
     let at = c .before in
     let args = at .before .before .before .args in
-    last-block (λ row. regionLines (regionOfWords (args .text .now) row)) (λ row. region-ended (regionOfWords (args .text .now) row)) (args .regions .now) (at .loop .inv) (c .loop-test .left)
+    last-block (λ row. regionLines (regionOfRow (args .text .now) row)) (λ row. region-ended (regionOfRow (args .text .now) row)) (args .regions .now) (at .loop .inv) (c .loop-test .left)
 
 same-length : tie.Need-same-length Inv-loop μ-loop
 same-length c = puts-length (whole c)

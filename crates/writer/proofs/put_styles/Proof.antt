@@ -3,7 +3,7 @@ use native.Mathlib.Omega.{arith}
 use Prim.Native.Nat.{_-_}
 use lib.ListN.{length}
 use Rattle.format.specs.Written.{styleLines}
-use Rattle.format.specs.Writable.{styleOfWords}
+use Rattle.format.specs.Contents.{styleOfRow}
 use Rattle.output.proofs.PutLaws.{puts-length}
 use Rattle.writer.proofs.BlockLaws.{Left, next-block, last-block, style-ended}
 use borrow.Author.Needs.{needs}
@@ -11,7 +11,7 @@ use Rattle.writer.proofs.put_styles.Statement.{statement}
 use Rattle.writer.proofs.put_styles.Tie as tie
 
 abbrev Inv-loop : tie.InvT-loop
-Inv-loop text styles out₀ at i₀ to₀ out i to = Left (λ row. styleLines (styleOfWords text row)) (λ row. style-ended (styleOfWords text row)) styles at out₀ i to out
+Inv-loop text styles out₀ at i₀ to₀ out i to = Left (λ row. styleLines (styleOfRow text row)) (λ row. style-ended (styleOfRow text row)) styles at out₀ i to out
 
 abbrev μ-loop : tie.MeasureT-loop
 μ-loop text styles out₀ at i₀ to₀ out i to = length styles - i
@@ -39,13 +39,13 @@ loop-again c =
     let put = c .before .before in
     let at = put .before .before .before .before in
     let args = at .before .before .before .args in
-    next-block (λ row. styleLines (styleOfWords (args .text .now) row)) (λ row. style-ended (styleOfWords (args .text .now) row)) (args .styles .now) (at .loop .inv) (omega arith) (put .style-block .ensures)
+    next-block (λ row. styleLines (styleOfRow (args .text .now) row)) (λ row. style-ended (styleOfRow (args .text .now) row)) (args .styles .now) (at .loop .inv) (omega arith) (put .style-block .ensures)
 
 whole : tie.Need-returns Inv-loop μ-loop
 whole c =
     let at = c .before in
     let args = at .before .before .before .args in
-    last-block (λ row. styleLines (styleOfWords (args .text .now) row)) (λ row. style-ended (styleOfWords (args .text .now) row)) (args .styles .now) (at .loop .inv) (c .loop-test .left)
+    last-block (λ row. styleLines (styleOfRow (args .text .now) row)) (λ row. style-ended (styleOfRow (args .text .now) row)) (args .styles .now) (at .loop .inv) (c .loop-test .left)
 
 same-length : tie.Need-same-length Inv-loop μ-loop
 same-length c = puts-length (whole c)

@@ -1,6 +1,6 @@
 -- `nodes::tokens::named_at` meets its contract.
-use Rattle.format.specs.Parts.{bytesAt}
 use borrow.Author.Needs.{needs}
+use Rattle.format.specs.Texts.{bytesAt}
 use Rattle.nodes.proofs.tokens.named_at.Statement.{statement}
 use Rattle.nodes.proofs.tokens.named_at.Tie as tie
 

@@ -3,7 +3,7 @@ use native.Mathlib.Omega.{arith}
 use Prim.Native.Nat.{_-_}
 use mathlib.Core.Path.{_∙_}
 use lib.ListN.{length}
-use Rattle.format.specs.Parts.{bytesAt}
+use Rattle.format.specs.Texts.{bytesAt}
 use Rattle.strings.proofs.StoreLaws.{stores-length, storing-length}
 use Rattle.strings.proofs.TextLaws.{part-length}
 use Rattle.strings.proofs.TurnLaws.{Decoding, decoding-starts, decoding-again, decoding-ends}

@@ -1,6 +1,6 @@
 -- `strings::puts::put_decoded` meets its contract.
-use Rattle.format.specs.Parts.{bytesAt}
 use borrow.Author.Needs.{needs}
+use Rattle.format.specs.Texts.{bytesAt}
 use Rattle.strings.proofs.puts.put_decoded.Statement.{statement}
 use Rattle.strings.proofs.puts.put_decoded.Tie as tie
 

@@ -1,7 +1,7 @@
--- `rows::choices::line_place` meets its contract.
+-- `rows::cues::line` meets its contract.
 use borrow.Author.Needs.{needs}
-use Rattle.rows.proofs.choices.line_place.Statement.{statement}
-use Rattle.rows.proofs.choices.line_place.Tie as tie
+use Rattle.rows.proofs.cues.line.Statement.{statement}
+use Rattle.rows.proofs.cues.line.Tie as tie
 
 array-read-line : tie.Need-array-read-line
 array-read-line c = search needs
@@ -24,8 +24,8 @@ line-align-requires c κs = search needs
 returns : tie.Need-returns
 returns c = rw (c .before .line .ensures, c .line-align .ensures)
 
-pub line-place-spec : {M : Type 1} → statement M
-line-place-spec =
+pub line-spec : {M : Type 1} → statement M
+line-spec =
     tie.close
     (tie.spec
     array-read-line

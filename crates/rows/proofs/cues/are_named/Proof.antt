@@ -1,8 +1,8 @@
--- `rows::choices::are_named` meets its contract.
+-- `rows::cues::are_named` meets its contract.
 use Rattle.rows.proofs.RowLaws.{unnamed-6, unnamed-7, unnamed-9, unnamed-10, unnamed-11, unnamed-13, last-code}
 use borrow.Author.Needs.{needs}
-use Rattle.rows.proofs.choices.are_named.Statement.{statement}
-use Rattle.rows.proofs.choices.are_named.Tie as tie
+use Rattle.rows.proofs.cues.are_named.Statement.{statement}
+use Rattle.rows.proofs.cues.are_named.Tie as tie
 
 array-read-if1 : tie.Need-array-read-if1
 array-read-if1 c = search needs

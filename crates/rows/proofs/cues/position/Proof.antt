@@ -1,7 +1,7 @@
--- `rows::choices::position_place` meets its contract.
+-- `rows::cues::position` meets its contract.
 use borrow.Author.Needs.{needs}
-use Rattle.rows.proofs.choices.position_place.Statement.{statement}
-use Rattle.rows.proofs.choices.position_place.Tie as tie
+use Rattle.rows.proofs.cues.position.Statement.{statement}
+use Rattle.rows.proofs.cues.position.Tie as tie
 
 array-read-position : tie.Need-array-read-position
 array-read-position c = search needs
@@ -21,8 +21,8 @@ position-align-requires c κs = search needs
 returns : tie.Need-returns
 returns c = rw (c .before .position .ensures, c .position-align .ensures)
 
-pub position-place-spec : {M : Type 1} → statement M
-position-place-spec =
+pub position-spec : {M : Type 1} → statement M
+position-spec =
     tie.close
     (tie.spec
     array-read-position
