@@ -1,10 +1,11 @@
 -- Answers as document 01 numbers them, and what lent memory holds after one.
 use Prim.Native.Nat.{ℕ}
-use mathlib.Core.Bool.{cond}
+use mathlib.Core.Bool.{Bool, true, cond}
 use mathlib.Core.List.{List, [], _∷_, _++_}
 use lib.Dec.{ltb}
 use lib.ListN.{length, drop}
 use Rattle.format.specs.Limits.{maxFile}
+use Rattle.format.specs.Texts.{has}
 
 -- accepted, with the values handed back; or refused by number, with what is returned with it
 pub data Answer : Type 0 where
@@ -15,6 +16,11 @@ pub data Answer : Type 0 where
 unfoldable pub ifAccepted {ℓ} : {A : Type ℓ} → Answer → A → A → A
 ifAccepted (accepted vs) a b = a
 ifAccepted (refused n vs) a b = b
+
+-- is the answer no refusal, or one by these numbers
+unfoldable pub refusedOnlyBy : List ℕ → Answer → Bool
+refusedOnlyBy numbers (accepted vs) = true
+refusedOnlyBy numbers (refused number vs) = has number numbers
 
 -- the next answer where this one accepts
 unfoldable pub andThen : Answer → Answer → Answer

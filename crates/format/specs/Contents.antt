@@ -4,8 +4,8 @@ use mathlib.Core.List.{List, map}
 use mathlib.Core.Option.{Option, none, some}
 use Rattle.format.specs.Texts.{bytesAt}
 use Rattle.format.specs.RegionSettings.{RegionValues}
-use Rattle.format.specs.Lists.{Cue, Lists}
-use Rattle.format.specs.Rows.{regionFor, cueEntry, regionEntry, styleEntry}
+use Rattle.format.specs.Lists.{Cue, Lists, lists}
+use Rattle.format.specs.Rows.{regionFor, cueEntry, regionEntry, styleEntry, cueRows, regionRows, styleRows}
 use Rattle.format.specs.declared.settings.Span.{Span}
 use Rattle.format.specs.declared.settings.LinePlace.{LinePlace}
 use Rattle.format.specs.declared.settings.PositionPlace.{PositionPlace}
@@ -120,3 +120,8 @@ styleOfRow s w = styleOfEntry s (styleEntry w)
 unfoldable pub contentsOfRows : List ℕ → List (List ℕ) → List (List ℕ) → List (List ℕ) → Contents
 contentsOfRows s styles regions cues =
     record { cues = map (cueOfRow s) cues; regions = map (regionOfRow s) regions; styles = map (styleOfRow s) styles }
+
+-- the contents of the rows that reading a text stores; they are those of its lists
+unfoldable pub storedContents : List ℕ → Contents
+storedContents s =
+    contentsOfRows s (styleRows (lists s .styles)) (regionRows (lists s .regions)) (cueRows (lists s .regions) (lists s .cues))

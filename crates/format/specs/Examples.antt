@@ -1,11 +1,26 @@
--- Document 01, "Times and numbers on both sides": its table. `proofs/Examples.antt` proves that the definitions give each row.
+-- Document 01, "Times and numbers on both sides": its table; and one row of each table of entries. `proofs/Examples.antt` proves that the
+-- definitions give them.
 use Prim.Native.Nat.{ℕ, _*_}
 use Prim.Native.String.{String}
+use mathlib.Core.Path.{_≡_}
+use mathlib.Core.Bool.{false}
 use mathlib.Core.List.{List, [], _∷_}
 use mathlib.Core.Option.{Option, none, some}
 use Rattle.format.specs.Bytes.{ascii}
 use Rattle.format.specs.Numbers.{percentage}
 use Rattle.format.specs.Times.{Result, failed, got, Time, timestamp, milliseconds}
+use Rattle.format.specs.Rows.{cueWords, newCueWords, regionWords, styleWords, cueEntry, newCueName, regionEntry, styleEntry}
+use Rattle.format.specs.declared.settings.Span.{Span}
+use Rattle.format.specs.declared.settings.Direction.the-variants as Direction
+use Rattle.format.specs.declared.settings.Line.the-variants as Line
+use Rattle.format.specs.declared.settings.LineAlign.the-variants as LineAlign
+use Rattle.format.specs.declared.settings.Position.the-variants as Position
+use Rattle.format.specs.declared.settings.PositionAlign.the-variants as PositionAlign
+use Rattle.format.specs.declared.settings.Align.the-variants as Align
+use Rattle.format.specs.declared.regions.Scroll.the-variants as Scroll
+use Rattle.format.specs.declared.regions.Region.{Region}
+use Rattle.format.specs.declared.rows.RegionIndex.the-variants as RegionIndex
+use Rattle.format.specs.declared.rows.CueEntry.{CueEntry}
 
 pub data Kind : Type 0 where
   time share : Kind
@@ -57,3 +72,50 @@ readsAs share s = percentage s
 
 unfoldable pub reads : Example → Option ℕ
 reads e = readsAs (e .kind) (e .text)
+
+-- The order of a row's words, which callers in any language rely on: a cue, a new cue's region's name and a region whose words all differ from
+-- their neighbours, with their rows.
+abbrev pub cueExample : CueEntry
+cueExample =
+    record {
+      id = record { from = 10; to = 20 };
+      start = 30;
+      end = 40;
+      text = record { from = 50; to = 60 };
+      vertical = Direction.Lr;
+      line = record { line = Line.At false 70; snap = false; align = LineAlign.End };
+      position = record { position = Position.At 80; align = PositionAlign.LineRight };
+      size = 90;
+      align = Align.Right;
+      region = RegionIndex.At 4;
+    }
+
+abbrev pub cueRowExample : List ℕ
+cueRowExample = 10 ∷ 20 ∷ 30 ∷ 40 ∷ 50 ∷ 60 ∷ 2 ∷ 1 ∷ 70 ∷ 1 ∷ 2 ∷ 1 ∷ 80 ∷ 3 ∷ 90 ∷ 4 ∷ 5 ∷ []
+
+abbrev pub nameExample : Span
+nameExample = record { from = 100; to = 110 }
+
+abbrev pub newCueRowExample : List ℕ
+newCueRowExample = 10 ∷ 20 ∷ 30 ∷ 40 ∷ 50 ∷ 60 ∷ 2 ∷ 1 ∷ 70 ∷ 1 ∷ 2 ∷ 1 ∷ 80 ∷ 3 ∷ 90 ∷ 4 ∷ 100 ∷ 110 ∷ []
+
+abbrev pub regionExample : Region
+regionExample =
+    record {
+      id = record { from = 10; to = 20 };
+      width = 30;
+      lines = 40;
+      anchor = record { x = 50; y = 60 };
+      viewport = record { x = 70; y = 80 };
+      scroll = Scroll.Up;
+    }
+
+abbrev pub regionRowExample : List ℕ
+regionRowExample = 10 ∷ 20 ∷ 30 ∷ 40 ∷ 50 ∷ 60 ∷ 70 ∷ 80 ∷ 1 ∷ []
+
+-- each is coded as its row, and its row is decoded as it
+pub record RowsHold : Type 0 where
+  pub cue : (cueWords cueExample ≡ cueRowExample) × (cueEntry cueRowExample ≡ cueExample)
+  pub newCue : (newCueWords cueExample nameExample ≡ newCueRowExample) × (newCueName newCueRowExample ≡ nameExample)
+  pub region : (regionWords regionExample ≡ regionRowExample) × (regionEntry regionRowExample ≡ regionExample)
+  pub style : (styleWords nameExample ≡ 100 ∷ 110 ∷ []) × (styleEntry (100 ∷ 110 ∷ []) ≡ nameExample)

@@ -1,14 +1,16 @@
 -- Reading a plain text into the lent tables: document 01's numbers and values, and what the tables hold after it.
 use Prim.Native.Nat.{ℕ}
-use mathlib.Core.Bool.{cond, not, _||_}
+use mathlib.Core.Path.{_≡_}
+use mathlib.Core.Bool.{true, cond, not, _||_}
 use mathlib.Core.List.{List, [], _∷_}
 use lib.Dec.{ltb}
 use lib.ListN.{length}
 use Rattle.format.specs.Limits.{maxText}
-use Rattle.format.specs.Plain.{firstNotPlain}
+use Rattle.format.specs.Plain.{plainText, firstNotPlain}
 use Rattle.format.specs.Blocks.{hasSignature}
 use Rattle.format.specs.Lists.{items, Lists, lists, anyOver}
-use Rattle.format.specs.Answers.{Answer, accepted, refused, ifAccepted, placed}
+use Rattle.format.specs.Answers.{Answer, accepted, refused, refusedOnlyBy, ifAccepted, andThen, placed}
+use Rattle.format.specs.Converting.{converting}
 use Rattle.format.specs.declared.Reading.{Reading}
 use Rattle.format.specs.declared.Reading.the-variants as Reading
 
@@ -36,6 +38,12 @@ reading s cues regions styles =
     (ltb cues (length (lists s .cues)) || ltb regions (length (lists s .regions)) || ltb styles (length (lists s .styles)))
     (refused 6 (counts (lists s)))
     (accepted (counts (lists s)))))))
+
+-- "Converting the … file and reading the text so made is refused by no number but 2 and 6."
+abbrev pub ReadsAgain : List ℕ → Type 0
+ReadsAgain file =
+    (room cues regions styles : ℕ)
+    → refusedOnlyBy (2 ∷ 6 ∷ []) (andThen (converting file room) (reading (plainText file) cues regions styles)) ≡ true
 
 -- each table after reading: the rows of its list, and beyond them what stood there; as it was where reading refuses
 unfoldable pub afterReading {ℓ} : {A : Type ℓ} → Answer → List A → List A → List A

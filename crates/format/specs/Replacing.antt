@@ -7,7 +7,7 @@ use mathlib.Core.Option.{Option, none, some}
 use lib.Dec.{eqb, ltb}
 use lib.ListN.{length, getD, set, take, drop}
 use Rattle.format.specs.Bytes.{lf, cr}
-use Rattle.format.specs.Texts.{Part, startsWith, isEmpty, has, bytesAt}
+use Rattle.format.specs.Texts.{Part, startsWith, isEmpty, bytesAt}
 use Rattle.format.specs.Plain.{plainText}
 use Rattle.format.specs.Lines.{split, join}
 use Rattle.format.specs.RegionSettings.{lastNamed}
@@ -17,7 +17,7 @@ use Rattle.format.specs.Rows.{ids, newCueEntry, newCueName}
 use Rattle.format.specs.Contents.{CueContents, Contents, contents, cueOfEntry}
 use Rattle.format.specs.Answers.{Answer, accepted, refused, ifAccepted, andThen, fileAnswer, placed}
 use Rattle.format.specs.Converting.{converting}
-use Rattle.format.specs.Reading.{reading}
+use Rattle.format.specs.Reading.{ReadsAgain}
 use Rattle.format.specs.Writable.{firstFailing, partPlain, cueTest1, cueTests}
 use Rattle.format.specs.Written.{cueLines}
 use Rattle.format.specs.declared.Replacing.{Replacing}
@@ -199,25 +199,17 @@ replacedRoom raw number t w scratch out =
 unfoldable pub withCue : ℕ → CueContents → Contents → Contents
 withCue number c l = record { cues = set (l .cues) number c; regions = l .regions; styles = l .styles }
 
--- is the answer no refusal, or one by these numbers
-unfoldable pub refusedOnlyBy : List ℕ → Answer → Bool
-refusedOnlyBy numbers (accepted vs) = true
-refusedOnlyBy numbers (refused number vs) = has number numbers
-
--- Demand 3, for a raw file, a cue number and a new cue. It rules out a program that hands the old file back (its lists are not the old ones
--- with that cue replaced), and one that changes the right cue but writes the rest of the file anew (the bytes around are the old ones).
-pub record Replaced (raw : List ℕ) (number : ℕ) (t w : List ℕ) : Type 0 where
+-- Demand 3, for a raw file, a cue number, a new cue and the file that is made. It rules out a program that hands the old file back (its lists
+-- are not the old ones with that cue replaced), and one that changes the right cue but writes the rest of the file anew (the bytes around are
+-- the old ones).
+pub record Replaced (raw : List ℕ) (number : ℕ) (t w new : List ℕ) : Type 0 where
   -- the own bytes are a part of the old file, and the new file has the written form in their place
   pub starts : ownStart raw number ≤ ownEnd raw number
   pub ends : ownEnd raw number ≤ length raw
-  pub bytes : newFile raw number t w ≡ take (ownStart raw number) raw ++ newForm (plainText raw) t w ++ drop (ownEnd raw number) raw
+  pub bytes : new ≡ take (ownStart raw number) raw ++ newForm (plainText raw) t w ++ drop (ownEnd raw number) raw
   -- the new file reads as the old lists with that one cue replaced by the cue asked for
   pub reads :
-      contents (lists (plainText (newFile raw number t w)))
+      contents (lists (plainText new))
       ≡ withCue number (cueAsked t w (regionNames (plainText raw))) (contents (lists (plainText raw)))
-  -- "Converting the new file and reading the text so made is refused by no number but 2 and 6."
-  pub again :
-      (room cues regions styles : ℕ)
-      → refusedOnlyBy (2 ∷ 6 ∷ [])
-      (andThen (converting (newFile raw number t w) room) (reading (plainText (newFile raw number t w)) cues regions styles))
-      ≡ true
+  -- and it can be read
+  pub again : ReadsAgain new

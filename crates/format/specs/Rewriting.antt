@@ -4,11 +4,13 @@ use mathlib.Core.List.{List, [], _∷_}
 use lib.ListN.{length}
 use Rattle.format.specs.Plain.{plainText}
 use Rattle.format.specs.Lists.{lists}
+use Rattle.format.specs.Contents.{contents}
+use Rattle.format.specs.Written.{written}
 use Rattle.format.specs.Rows.{cueRows, regionRows, styleRows}
 use Rattle.format.specs.Answers.{Answer, accepted, refused, ifAccepted, andThen, placed}
 use Rattle.format.specs.Converting.{converting}
 use Rattle.format.specs.Reading.{reading, afterReading}
-use Rattle.format.specs.Writing.{fileOf, writing}
+use Rattle.format.specs.Writing.{writing}
 use Rattle.format.specs.declared.Rewriting.{Rewriting}
 use Rattle.format.specs.declared.Rewriting.the-variants as Rewriting
 
@@ -37,12 +39,12 @@ unfoldable pub lengths : List ℕ → List (List ℕ) → List (List ℕ) → Li
 lengths text cues regions styles out =
     record { text = length text; cues = length cues; regions = length regions; styles = length styles; out = length out }
 
--- writing what a plain text reads as, and the file that this gives
+-- writing what a plain text reads as, and the file that this gives: "the written form" of its lists
 unfoldable pub writingOf : List ℕ → ℕ → Answer
 writingOf s out = writing s (styleRows (lists s .styles)) (regionRows (lists s .regions)) (cueRows (lists s .regions) (lists s .cues)) out
 
 unfoldable pub rewrittenFile : List ℕ → List ℕ
-rewrittenFile s = fileOf s (styleRows (lists s .styles)) (regionRows (lists s .regions)) (cueRows (lists s .regions) (lists s .cues))
+rewrittenFile s = written (contents (lists s))
 
 unfoldable pub readAndWrite : List ℕ → Lent → Answer
 readAndWrite s lent = andThen (reading s (lent .cues) (lent .regions) (lent .styles)) (writingOf s (lent .out))

@@ -1,14 +1,18 @@
 -- Writing lists to a file: document 01's numbers and values, and what the output room holds after it.
 use Prim.Native.Nat.{ℕ, _+_}
+use mathlib.Core.Path.{_≡_}
 use mathlib.Core.Bool.{cond}
 use mathlib.Core.List.{List, [], _∷_}
 use mathlib.Core.Option.{Option, none, some}
 use lib.Dec.{ltb}
 use lib.ListN.{length}
 use Rattle.format.specs.Limits.{maxFile}
+use Rattle.format.specs.Plain.{plainText}
+use Rattle.format.specs.Lists.{lists}
+use Rattle.format.specs.Reading.{ReadsAgain}
 use Rattle.format.specs.Answers.{Answer, accepted, refused, ifAccepted, fileAnswer, placed}
 use Rattle.format.specs.Writable.{cueFails, regionFails, styleFails}
-use Rattle.format.specs.Contents.{contentsOfRows}
+use Rattle.format.specs.Contents.{Contents, contents, contentsOfRows, storedContents}
 use Rattle.format.specs.Written.{written}
 use Rattle.format.specs.declared.Writing.{Writing}
 use Rattle.format.specs.declared.Writing.the-variants as Writing
@@ -50,3 +54,11 @@ writing s styles regions cues room =
 unfoldable pub writtenRoom : List ℕ → List (List ℕ) → List (List ℕ) → List (List ℕ) → List ℕ → List ℕ
 writtenRoom s styles regions cues room =
     ifAccepted (writing s styles regions cues (length room)) (placed (fileOf s styles regions cues) room) room
+
+-- Demand 2's second half, of a file that was made of lists with these contents: converting changes nothing, the file reads as those lists, and
+-- the rows that reading stores say the same. It rules out a program that writes the same file, or an empty one, for every list.
+pub record ReadBack (c : Contents) (file : List ℕ) : Type 0 where
+  pub plain : plainText file ≡ file
+  pub reads : contents (lists (plainText file)) ≡ c
+  pub stores : storedContents (plainText file) ≡ c
+  pub again : ReadsAgain file

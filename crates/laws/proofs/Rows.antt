@@ -18,7 +18,7 @@ use Rattle.format.specs.Blocks.{linesAt, Collecting, between, header, inside, s
 use Rattle.format.specs.Lists.{Cue, Item, nothing, cue, style, region, meaning, isCue, itemsFrom, items, Lists, into, listed, lists}
 use Rattle.format.specs.Rows.{directionOf, lineOf, lineAlignOf, positionOf, positionAlignOf, alignOf, regionIndexOf, scrollOf, directionWord, lineWord, lineNumberWord, snapWord, lineAlignWord, positionWord, positionNumberWord, positionAlignWord, alignWord, regionWord, scrollWord, greatestWord}
 use Rattle.format.specs.Rows.{word, cueEntryWith, cueWords, regionWords, styleWords, cueEntry, regionEntry, styleEntry, regionFor, entryIs, ids, indexIs, cueRows, regionRows, styleRows}
-use Rattle.format.specs.Contents.{CueContents, cueContents, regionContents, contents, optionOf, cueOfEntry, regionOfEntry, styleOfEntry, cueOfRow, regionOfRow, styleOfRow, contentsOfRows}
+use Rattle.format.specs.Contents.{CueContents, cueContents, regionContents, contents, optionOf, cueOfEntry, regionOfEntry, styleOfEntry, cueOfRow, regionOfRow, styleOfRow, contentsOfRows, storedContents}
 use Rattle.laws.proofs.Tests.{by-test}
 use Rattle.laws.proofs.Names.{found}
 use Rattle.laws.proofs.Standing.{All, Stands, Signed, CueStands, lists-stand}
@@ -248,9 +248,8 @@ maps P f g h e (x ∷ xs) k = rw (e x (k .0), maps P f g h e xs (k .1)) refl
 pub rows-say :
     (s : List ℕ)
     → length s ≤ maxText
-    → contentsOfRows s (styleRows (lists s .styles)) (regionRows (lists s .regions)) (cueRows (lists s .regions) (lists s .cues))
-    ≡ contents (lists s)
-unfolding contentsOfRows contents styleRows regionRows cueRows
+    → storedContents s ≡ contents (lists s)
+unfolding storedContents contentsOfRows contents styleRows regionRows cueRows
 rows-say s l =
     let rs = lists s .regions in
     let stand = lists-stand s in

@@ -5,7 +5,7 @@ use mathlib.Core.Bool.{Bool, false, not}
 use mathlib.Core.List.{List, [], _∷_}
 use native.Mathlib.Omega.{arith}
 use lib.Dec.{eqb, ltb}
-use lib.ListN.{length, drop}
+use lib.ListN.{length, take, drop}
 use Rattle.format.specs.Bytes.{lf}
 use Rattle.format.specs.Texts.{run, beforeFirst, behindFirst}
 use Rattle.format.specs.Answers.{ifAccepted}
@@ -21,7 +21,7 @@ module _ (raw : List ℕ) (number : ℕ) (t w : List ℕ) (scratch : ℕ) (out l
       (a : Replacing)
       → replacingIs a ≡ replacing raw number t w scratch (length out)
       → left ≡ replacedRoom raw number t w scratch out
-      → ((n : ℕ) → a ≡ Replacing.File n → Replaced raw number t w)
+      → ((n : ℕ) → a ≡ Replacing.File n → Replaced raw number t w (take n left))
       → OutIs raw scratch out (toldIs a) left
   unfolding toldIs replacingIs replacedRoom ifAccepted
   out-told (Replacing.File n) e o d =

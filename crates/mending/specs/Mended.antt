@@ -5,7 +5,7 @@ use mathlib.Core.Path.{_≡_}
 use mathlib.Core.Bool.{Bool, cond, _||_}
 use mathlib.Core.List.{List, [], _∷_}
 use lib.Dec.{ltb}
-use lib.ListN.{length}
+use lib.ListN.{length, take}
 use Rattle.format.specs.Answers.{accepted, placed}
 use Rattle.format.specs.Converting.{convertedRoom}
 use Rattle.format.specs.Rewriting.{refusalNumber}
@@ -22,7 +22,7 @@ pub record Mended (raw : List ℕ) (scratch : ℕ) (out : List ℕ) (n : ℕ) (l
   pub row : List ℕ
   pub answer : replacing raw number text row scratch (length out) ≡ accepted (n ∷ [])
   pub holds : left ≡ placed (newFile raw number text row) out
-  pub replaced : Replaced raw number text row
+  pub replaced : Replaced raw number text row (take n left)
 
 -- the output room after mending a raw file
 abbrev pub OutIs : List ℕ → ℕ → List ℕ → Mending → List ℕ → Type 0

@@ -17,7 +17,7 @@ use Rattle.format.specs.Contents.{cueOfEntry}
 use Rattle.format.specs.Blocks.{hasSignature}
 use Rattle.format.specs.Lists.{items, lists, anyOver}
 use Rattle.format.specs.Answers.{ifAccepted, fileAnswer}
-use Rattle.format.specs.Replacing.{emptyLine, rawLines, rawStart, rawEnd, newCueFails, regionNames, newFile, noGap, lineBefore, replacingIs, unlessTest, replacingText, replacing, Replaced}
+use Rattle.format.specs.Replacing.{emptyLine, rawLines, rawStart, rawEnd, newCueFails, regionNames, newFile, noGap, lineBefore, replacingIs, unlessTest, replacingText}
 use Rattle.format.specs.declared.Replacing.{Replacing}
 use Rattle.format.specs.declared.Replacing.the-variants as Replacing
 use Rattle.laws.proofs.Newlines.{newlines-keeps}
@@ -25,7 +25,6 @@ use Rattle.laws.proofs.Plainness.{plain-absent}
 use Rattle.laws.proofs.PlainText.{plainText-length, plainText-plain}
 use Rattle.replaced.proofs.RawLines.{split-rawLines}
 use Rattle.replaced.proofs.CueBlocks.{cue-block-at}
-use Rattle.replaced.proofs.Files.{replaced}
 use Rattle.writable.specs.Faults.{testNumber}
 use Rattle.writable.proofs.FaultLaws.{none-fails, number-is}
 use Rattle.places.specs.Places.{lineEnds, OwnLines}
@@ -158,11 +157,3 @@ module _ (raw : List ℕ) (number : ℕ) (t w out : List ℕ) where
 
     pub text-size : length raw ≤ maxFile → length s ≤ maxText
     text-size h = rw q (omega (arith, plainText-length raw))
-
--- an accepting answer is demand 3
-pub accepted-is :
-    (raw : List ℕ) (number : ℕ) (t w : List ℕ) (scratch out : ℕ) (r : Replacing)
-    → replacingIs r ≡ replacing raw number t w scratch out
-    → (n : ℕ) → r ≡ Replacing.File n → Replaced raw number t w
-unfolding replacingIs
-accepted-is raw number t w scratch out r e n q = replaced raw number t w scratch out (n ∷ []) (sym e ∙ ap replacingIs q)

@@ -186,7 +186,7 @@ pub fn replace_cue(
     ensures answer { λ r. ⌜ replacingIs r ≡ replacing (now (raw .entry)) number (now (text .entry)) row (length (now (scratch .entry))) (length (now (out .entry))) ⌝ }
     ensures scratch { λ _. ⌜ now (scratch .exit) ≡ convertedRoom (now (raw .entry)) (now (scratch .entry)) ⌝ }
     ensures out { λ _. ⌜ now (out .exit) ≡ replacedRoom (now (raw .entry)) number (now (text .entry)) row (length (now (scratch .entry))) (now (out .entry)) ⌝ }
-    ensures replaced { λ r. ⌜ ((n : ℕ) → r ≡ Answer.File n → Replaced (now (raw .entry)) number (now (text .entry)) row) ⌝ }
+    ensures replaced { λ r. ⌜ ((n : ℕ) → r ≡ Answer.File n → Replaced (now (raw .entry)) number (now (text .entry)) row (take n (now (out .exit)))) ⌝ }
 {
     match plain::convert(raw, scratch) {
         Converted::Text(n) => replace_in(raw, &scratch[..n], number, text, row, out),

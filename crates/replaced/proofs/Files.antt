@@ -1,28 +1,24 @@
 -- Demand 3: where replacing is accepted, the new file has the old bytes around the cue's own, reads as the old lists with that one cue
 -- replaced, and is refused by no number but 2 and 6.
 use Prim.Native.Nat.{ℕ, zero, suc, _+_, _-_, _≤_, _<_}
-use mathlib.Core.Path.{_≡_, refl, ap, _∙_}
-use mathlib.Core.Bool.{true, false, not, _||_}
+use mathlib.Core.Path.{_≡_, refl, sym, ap, _∙_}
+use mathlib.Core.Bool.{true, false, not}
 use mathlib.Core.List.{List, [], _∷_, _++_, append-assoc}
 use mathlib.Core.Option.{Option, none, some}
 use native.Mathlib.Omega.{arith}
 use lib.Dec.{ltb}
 use lib.ListN.{length, getD, take, drop}
-use borrow.Author.Tests.{ltb-true, ltb-false, le-ltb, not-false}
-use Rattle.format.specs.Limits.{maxFile, maxText}
-use Rattle.format.specs.Texts.{has, all}
-use Rattle.format.specs.Plain.{plainText, firstNotPlain}
+use borrow.Author.Tests.{ltb-true, not-false}
+use Rattle.format.specs.Plain.{plainText}
 use Rattle.format.specs.Lines.{split}
 use Rattle.format.specs.Blocks.{hasSignature}
 use Rattle.format.specs.Lists.{items, lists, anyOver}
-use Rattle.format.specs.Answers.{Answer, accepted, ifAccepted, andThen, fileAnswer}
-use Rattle.format.specs.Converting.{converting}
-use Rattle.format.specs.Reading.{reading}
+use Rattle.format.specs.Answers.{Answer, accepted, ifAccepted, fileAnswer, placed}
 use Rattle.format.specs.Contents.{cueOfEntry}
-use Rattle.format.specs.Replacing.{cueBlocks, firstLine, lastLine, ownStart, ownEnd, cueAsked, newCueFails, withRegion, regionNames, newForm, newFile, noGap, unlessTest, replacingText, replacing, refusedOnlyBy, Replaced}
-use Rattle.laws.proofs.Tests.{by-test}
-use Rattle.laws.proofs.Answers.{behind-test, behind-answer}
-use Rattle.laws.proofs.PlainText.{plainText-length, plainText-plain}
+use Rattle.format.specs.Replacing.{cueBlocks, firstLine, lastLine, ownStart, ownEnd, cueAsked, newCueFails, withRegion, regionNames, newForm, newFile, noGap, unlessTest, replacingIs, replacingText, replacing, replacedRoom, Replaced}
+use Rattle.format.specs.declared.Replacing.{Replacing}
+use Rattle.format.specs.declared.Replacing.the-variants as Replacing
+use Rattle.laws.proofs.Answers.{behind-test, behind-answer, front, file-made, reads-again}
 use Rattle.replaced.proofs.RawLines.{lines-replaced, signature-first}
 use Rattle.replaced.proofs.CueBlocks.{cue-block-at, lines-read}
 use Rattle.replaced.proofs.Asked.{asked-writable, form-plain, form-begins}
@@ -34,19 +30,19 @@ behind-option none n vs a e = (refl, e)
 behind-option (some test) n vs a e = let z : _≡_ {A = ℕ} 0 1 = cc in absurd (omega arith)
 
 -- what an accepting answer says of the file and the new cue
-record Accepted (raw : List ℕ) (number : ℕ) (t w : List ℕ) : Type 0 where
+record Accepted (raw : List ℕ) (number : ℕ) (t w : List ℕ) (out : ℕ) (vs : List ℕ) : Type 0 where
   signature : hasSignature (plainText raw) ≡ true
   within : anyOver (items (plainText raw)) ≡ false
   there : number < length (lists (plainText raw) .cues)
   writable : newCueFails t w (regionNames (plainText raw)) ≡ none
   gap : noGap (plainText raw) number t w ≡ false
-  fits : length (newFile raw number t w) ≤ maxFile
+  made : fileAnswer (newFile raw number t w) out ≡ accepted vs
 
 accepts :
     (raw : List ℕ) (number : ℕ) (t w : List ℕ) (scratch out : ℕ) (vs : List ℕ)
     → replacing raw number t w scratch out ≡ accepted vs
-    → Accepted raw number t w
-unfolding replacing replacingText fileAnswer
+    → Accepted raw number t w out vs
+unfolding replacing replacingText
 accepts raw number t w scratch out vs e =
     let s = plainText raw in
     let new = newFile raw number t w in
@@ -55,31 +51,14 @@ accepts raw number t w scratch out vs e =
     let there = behind-test (not (ltb number (length (lists s .cues)))) 7 (length (lists s .cues) ∷ []) vs _ (within .1) in
     let writable = behind-option (newCueFails t w (regionNames s)) number vs _ (there .1) in
     let gap = behind-test (noGap s number t w) 9 [] vs _ (writable .1) in
-    let fits = behind-test (ltb maxFile (length new)) 1 [] vs _ (gap .1) in
     record {
       signature = not-false (hasSignature s) (signed .0);
       within = within .0;
       there = ltb-true number (length (lists s .cues)) (not-false (ltb number (length (lists s .cues))) (there .0));
       writable = writable .0;
       gap = gap .0;
-      fits = ltb-false maxFile (length new) (fits .0);
+      made = gap .1;
     }
-
--- converting a file of this length and reading a text with the signature and no number above its limit
-reads-again :
-    (raw : List ℕ) (room cues regions styles : ℕ)
-    → length raw ≤ maxFile
-    → hasSignature (plainText raw) ≡ true
-    → anyOver (items (plainText raw)) ≡ false
-    → refusedOnlyBy (2 ∷ 6 ∷ []) (andThen (converting raw room) (reading (plainText raw) cues regions styles)) ≡ true
-unfolding refusedOnlyBy andThen ifAccepted converting reading has all
-reads-again raw room cues regions styles l signed within =
-    let s = plainText raw in
-    let size : ltb maxText (length s) ≡ false = le-ltb maxText (length s) (omega (arith, plainText-length raw)) in
-    let plain : ltb (firstNotPlain s) (length s) ≡ false = le-ltb (firstNotPlain s) (length s) (omega (arith, plainText-plain raw)) in
-    let short = ltb cues (length (lists s .cues)) || ltb regions (length (lists s .regions)) || ltb styles (length (lists s .styles)) in
-    rw (le-ltb maxFile (length raw) l, size, plain, signed, within)
-    (by-test (ltb room (length s)) (λ y. rw y refl) (λ n. rw n (by-test short (λ y. rw y refl) (λ m. rw m refl))))
 
 -- the first line stays where others are replaced
 first-kept : (n : ℕ) (ls ms : List (List ℕ)) → 0 < n → 0 < length ls → getD (take n ls ++ ms) 0 [] ≡ getD ls 0 []
@@ -90,7 +69,7 @@ first-kept (suc n) (x ∷ ls) ms h l = refl
 pub replaced :
     (raw : List ℕ) (number : ℕ) (t w : List ℕ) (scratch out : ℕ) (vs : List ℕ)
     → replacing raw number t w scratch out ≡ accepted vs
-    → Replaced raw number t w
+    → Replaced raw number t w (newFile raw number t w)
 unfolding newFile newForm ownStart ownEnd lastLine noGap cueAsked withRegion cueOfEntry
 replaced raw number t w scratch out vs e =
     let ok = accepts raw number t w scratch out vs e in
@@ -112,5 +91,22 @@ replaced raw number t w scratch out vs e =
       ends = raws .ends;
       bytes = refl;
       reads = read .same;
-      again = λ room cues regions styles. reads-again new room cues regions styles (ok .fits) (signature-first (plainText new) s first ∙ ok .signature) (read .within);
+      again = reads-again new (file-made new out vs (ok .made) .fits) (signature-first (plainText new) s first ∙ ok .signature) (read .within);
     }
+
+-- the same of the file that a function left in the output room, where it keeps the promise of the answer and of that room
+pub room-replaced :
+    (raw : List ℕ) (number : ℕ) (t w : List ℕ) (scratch : ℕ) (out left : List ℕ) (r : Replacing)
+    → replacingIs r ≡ replacing raw number t w scratch (length out)
+    → left ≡ replacedRoom raw number t w scratch out
+    → (n : ℕ)
+    → r ≡ Replacing.File n
+    → Replaced raw number t w (take n left)
+unfolding replacingIs replacedRoom ifAccepted
+room-replaced raw number t w scratch out left r e room n q =
+    let new = newFile raw number t w in
+    let is : replacing raw number t w scratch (length out) ≡ accepted (n ∷ []) = sym e ∙ ap replacingIs q in
+    let placed-there : left ≡ placed new out = rw is at room in
+    let ok = accepts raw number t w scratch (length out) (n ∷ []) is in
+    rw (front new out left n placed-there (file-made new (length out) (n ∷ []) (ok .made) .size n refl))
+    (replaced raw number t w scratch (length out) (n ∷ []) is)

@@ -1,6 +1,6 @@
 -- Laws of one answer behind another: a refusal to read is the answer, and where lists were read, their rows stand at the tables' starts.
 use Prim.Native.Nat.{ℕ, min}
-use mathlib.Core.Path.{_≡_, refl, sym, _∙_}
+use mathlib.Core.Path.{_≡_, refl, sym, ap, _∙_}
 use mathlib.Core.Bool.{not, _||_}
 use mathlib.Core.Logic.{⊎-elim}
 use mathlib.Core.List.{List, [], _∷_}
@@ -8,7 +8,9 @@ use native.Mathlib.Omega.{arith}
 use lib.Dec.{ltb}
 use lib.ListN.{length, take, length-map}
 use lib.Seq.{length-take-le}
+use borrow.Author.Tests.{ltb-false}
 use Rattle.laws.proofs.Answers.{behind-test, front}
+use Rattle.laws.proofs.Rows.{rows-say}
 use types.Run.{OneOf}
 use denote.Enum.Declared.{tagOf}
 use Rattle.format.specs.Answers.{Answer, accepted, ifAccepted, andThen, placed}
@@ -18,7 +20,10 @@ use Rattle.format.specs.Blocks.{hasSignature}
 use Rattle.format.specs.Lists.{items, lists, anyOver}
 use Rattle.format.specs.Rows.{cueRows, regionRows, styleRows}
 use Rattle.format.specs.Reading.{readingIs, counts, reading, afterReading}
-use Rattle.format.specs.Rewriting.{rewritingIs, numberOnly, refusalNumber}
+use Rattle.format.specs.Contents.{storedContents}
+use Rattle.format.specs.Written.{written}
+use Rattle.format.specs.Writing.{fileOf}
+use Rattle.format.specs.Rewriting.{rewritingIs, numberOnly, refusalNumber, rewrittenFile}
 use Rattle.format.proofs.Reading.{the-type}
 use Rattle.lookup.proofs.NameLaws.{take-min}
 use Rattle.format.specs.declared.Reading.{Reading}
@@ -89,3 +94,13 @@ starts s cues₀ regions₀ styles₀ {c} {r} {t} {cues} {regions} {styles} a hc
       regions = front _ regions₀ regions r hr (nr ∙ sym (length-map (l .regions) _));
       styles = front _ styles₀ styles t ht (nt ∙ sym (length-map (l .styles) _));
     }
+
+-- what is written of the rows of a text that was read is the written form of its lists
+pub file-is :
+    (s : List ℕ) (cues regions styles : ℕ) (vs : List ℕ)
+    → accepted vs ≡ reading s cues regions styles
+    → rewrittenFile s ≡ fileOf s (styleRows (lists s .styles)) (regionRows (lists s .regions)) (cueRows (lists s .regions) (lists s .cues))
+unfolding reading rewrittenFile fileOf storedContents
+file-is s cues regions styles vs e =
+    let size = behind-test (ltb maxText (length s)) 1 [] vs _ (sym e) in
+    ap written (sym (rows-say s (ltb-false maxText (length s) (size .0))))

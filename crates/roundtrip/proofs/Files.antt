@@ -1,17 +1,16 @@
 -- Writing any writable lists and reading the file so made gives those lists back, by contents; the file is plain, has the signature, and no
 -- number in it is above a limit.
-use Prim.Native.Nat.{ℕ, _+_, _≤_}
+use Prim.Native.Nat.{ℕ, _+_}
 use mathlib.Core.Path.{_≡_, refl, sym, ap, subst, _∙_}
-use mathlib.Core.Bool.{Bool, true, false, cond, not, _||_, true≢false}
+use mathlib.Core.Bool.{Bool, true, false, not, _||_, true≢false}
 use mathlib.Core.List.{List, [], _∷_, _++_, map, append-nil, append-assoc}
 use mathlib.Core.Option.{Option, none, some}
 use native.Mathlib.Omega.{arith}
 use lib.Dec.{ltb}
 use lib.ListN.{length, getD}
-use borrow.Author.Tests.{eqb-true, le-ltb, not-true}
+use borrow.Author.Tests.{eqb-true, not-true}
 use Rattle.format.specs.Texts.{isEmpty}
-use Rattle.format.specs.Limits.{maxText}
-use Rattle.format.specs.Plain.{firstNotPlain, Plain}
+use Rattle.format.specs.Plain.{Plain}
 use Rattle.format.specs.RegionSettings.{RegionValues, lastNamed}
 use Rattle.format.specs.TimingLines.{timingLine}
 use Rattle.format.specs.Blocks.{linesAt, bytesOf, blocks, hasSignature, joined}
@@ -21,7 +20,6 @@ use Rattle.format.specs.Contents.{CueContents, RegionContents, Contents, cueCon
 use Rattle.format.specs.Writable.{unbroken, isIndex, lastOfItsName, namesOf, cueFails, regionFails, styleFails, cueTest1, cueTest6, cueTests, regionTest1, regionTests, styleTest1}
 use Rattle.format.specs.Written.{styleLines, regionLines, writtenTiming, cueLines, fileLines, written}
 use Rattle.format.specs.Answers.{Answer, accepted, refused}
-use Rattle.format.specs.Reading.{reading, counts}
 use Rattle.format.specs.Writing.{orElse, firstIn, unlessFailing, writing}
 use Rattle.laws.proofs.Tests.{and-left, and-right}
 use Rattle.laws.proofs.Standing.{All, bytes-lines}
@@ -166,8 +164,8 @@ unfolding cueLines
 cue-blocks rs c f =
     cue-block (c .id) (writtenTiming rs c) (c .text) (f .line) (f .plain) (timing-line rs c (f .settable)) (timing-arrow rs c) (f .text)
 
--- what holds of the file that is written of these lists
-pub record ReadBack (c : Contents) : Type 0 where
+-- what holds of the file that is written of lists with these contents
+pub record Reads (c : Contents) : Type 0 where
   pub plain : Plain (written c)
   pub signature : hasSignature (written c) ≡ true
   pub within : anyOver (items (written c)) ≡ false
@@ -231,7 +229,7 @@ module _ (c : Contents) (styles : All (λ t. unbroken t ≡ true) (c .styles)) (
   unfolding contents
   contents-back = rw (styles-back, regions-back, cues-back)
 
-  pub read-back : Plain (written c) → ReadBack c
+  pub read-back : Plain (written c) → Reads c
   unfolding written fileLines lists items
   read-back plain =
       record {
@@ -259,7 +257,7 @@ none-first list fails i (w ∷ ws) e =
     let h = unfailing list i (fails w) (firstIn list fails (i + 1) ws) e in (h .0, none-first list fails (i + 1) ws (h .1))
 
 -- an answer that accepts was refused by no test
-accepts : (o : Option (List ℕ)) (answer : Answer) (vs : List ℕ) → unlessFailing o answer ≡ accepted vs → (o ≡ none) × (answer ≡ accepted vs)
+pub accepts : (o : Option (List ℕ)) (answer : Answer) (vs : List ℕ) → unlessFailing o answer ≡ accepted vs → (o ≡ none) × (answer ≡ accepted vs)
 unfolding unlessFailing
 accepts none answer vs e = (refl, e)
 accepts (some us) answer vs e = let z : _≡_ {A = ℕ} 0 1 = cc in absurd (omega arith)
@@ -291,7 +289,7 @@ cue-test1 s rows w e =
 pub round-trip :
     (s : List ℕ) (styles regions cues : List (List ℕ)) (room : ℕ) (vs : List ℕ)
     → writing s styles regions cues room ≡ accepted vs
-    → ReadBack (contentsOfRows s styles regions cues)
+    → Reads (contentsOfRows s styles regions cues)
 unfolding writing contentsOfRows
 round-trip s styles regions cues room vs e =
     let rest = accepts (firstIn 0 (styleFails s) 0 styles) _ vs e in
@@ -312,18 +310,3 @@ round-trip s styles regions cues room vs e =
     (each (λ w. cueFails s regions w ≡ none) (λ w. cueTest1 s w ≡ true) (cue-test1 s regions) cues d) in
     let c = contentsOfRows s styles regions cues in
     read-back c texts known known-cues (plain-written c plain)
-
--- reading the file is refused by no number but 1 and 6
-pub reading-again :
-    (c : Contents) (cues regions styles : ℕ)
-    → ReadBack c
-    → length (written c) ≤ maxText
-    → let l = lists (written c) in
-    reading (written c) cues regions styles
-    ≡ cond (ltb cues (length (l .cues)) || ltb regions (length (l .regions)) || ltb styles (length (l .styles))) (refused 6 (counts l))
-    (accepted (counts l))
-unfolding reading
-reading-again c cues regions styles back l =
-    let f = written c in
-    let plain : ltb (firstNotPlain f) (length f) ≡ false = le-ltb (firstNotPlain f) (length f) (omega (arith, back .plain)) in
-    rw (le-ltb maxText (length f) l, plain, back .signature, back .within)

@@ -5,3 +5,4 @@ pub mod Cues
 pub mod Regions
 pub mod Plain
 pub mod Files
+pub mod Back

@@ -2,11 +2,15 @@
 use Prim.Native.Nat.{ℕ, _≤_, _<_}
 use mathlib.Core.Path.{_≡_, refl, sym, ap, _∙_}
 use mathlib.Core.List.{List, [], _∷_}
-use lib.ListN.{length}
+use lib.ListN.{length, take}
 use Rattle.format.specs.Limits.{maxFile}
 use Rattle.format.specs.Answers.{Answer, accepted, refused, ifAccepted, fileAnswer}
 use Rattle.format.specs.Writable.{styleFails, regionFails, cueFails}
-use Rattle.format.specs.Writing.{firstIn, unlessFailing, fileOf, writing, writtenRoom}
+use Rattle.format.specs.Writing.{writingIs, firstIn, unlessFailing, fileOf, writing, writtenRoom, ReadBack}
+use Rattle.format.specs.Contents.{contentsOfRows}
+use Rattle.format.specs.declared.Writing.{Writing}
+use Rattle.format.specs.declared.Writing.the-variants as Writing
+use Rattle.roundtrip.proofs.Back.{room-back}
 use Rattle.output.specs.Puts.{Puts}
 use Rattle.output.proofs.FileLaws as File
 use Rattle.writer.specs.Blocks.{unless}
@@ -23,6 +27,15 @@ module _ (s : List ℕ) (styles regions cues : List (List ℕ)) (out : List ℕ)
   -- what writing answers, and the room after it
   abbrev pub Answers : Answer → List ℕ → Type 0
   Answers a o = (a ≡ answer) × (o ≡ writtenRoom s styles regions cues out)
+
+  -- so the file that was left is read back
+  pub promised :
+      {r : Writing} {o : List ℕ}
+      → Answers (writingIs r) o
+      → (writingIs r ≡ answer)
+      × ((o ≡ writtenRoom s styles regions cues out)
+      × ((n : ℕ) → r ≡ Writing.File n → ReadBack (contentsOfRows s styles regions cues) (take n o)))
+  promised {r} {o} h = (h .0, (h .1, room-back s styles regions cues out o r (h .0) (h .1)))
 
   refusal : (n : ℕ) (vs : List ℕ) → refused n vs ≡ answer → Answers (refused n vs) out
   unfolding writtenRoom ifAccepted

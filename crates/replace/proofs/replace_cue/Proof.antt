@@ -7,7 +7,7 @@ use Rattle.format.specs.Converting.{convertedIs}
 use Rattle.format.specs.Replacing.{replacingIs, replacing, replacedRoom}
 use Rattle.format.specs.declared.Replacing.the-variants as Replacing
 use Rattle.laws.proofs.Answers.{Converts, converts}
-use Rattle.replace.proofs.CheckLaws.{accepted-is}
+use Rattle.replaced.proofs.Files.{room-replaced}
 use borrow.Author.Needs.{needs}
 use Rattle.replace.proofs.replace_cue.Statement.{statement}
 use Rattle.replace.proofs.replace_cue.Tie as tie
@@ -65,7 +65,8 @@ returns c =
     let made = called .replace-in .ensures in
     let is = rw (known .n .given .1) at (told .0) in
     let answer : replacingIs (called .replace-in .result) ≡ replacing (args .raw .now) (args .number) (args .text .now) (args .row) (length (args .scratch .now)) (length (args .out .now)) = rw (← is) (made .answer) in
-    (answer, (told .1, (rw (← is) (made .holds), accepted-is (args .raw .now) (args .number) (args .text .now) (args .row) (length (args .scratch .now)) (length (args .out .now)) (called .replace-in .result) answer)))
+    let room : called .replace-in .last .1 .0 ≡ replacedRoom (args .raw .now) (args .number) (args .text .now) (args .row) (length (args .scratch .now)) (args .out .now) = rw (← is) (made .holds) in
+    (answer, (told .1, (room, room-replaced (args .raw .now) (args .number) (args .text .now) (args .row) (length (args .scratch .now)) (args .out .now) _ (called .replace-in .result) answer room)))
 
 same-length-3 : tie.Need-same-length-3
 same-length-3 c = search needs
@@ -78,7 +79,7 @@ returns-2 c =
     let told = converted .convert .ensures in
     let is = rw (c .enum-told .given .1) at (told .0) in
     let answer : replacingIs Replacing.RawTooLong ≡ replacing (args .raw .now) (args .number) (args .text .now) (args .row) (length (args .scratch .now)) (length (args .out .now)) = rw (← is) refl in
-    (answer, (told .1, (rw (← is) refl, accepted-is (args .raw .now) (args .number) (args .text .now) (args .row) (length (args .scratch .now)) (length (args .out .now)) Replacing.RawTooLong answer)))
+    (answer, (told .1, (rw (← is) refl, room-replaced (args .raw .now) (args .number) (args .text .now) (args .row) (length (args .scratch .now)) (args .out .now) (args .out .now) Replacing.RawTooLong answer (rw (← is) refl))))
 
 same-length-4 : tie.Need-same-length-4
 same-length-4 c = search needs
@@ -91,7 +92,7 @@ returns-3 c =
     let told = converted .convert .ensures in
     let is = rw (c .before .n2 .given .1) at (told .0) in
     let answer : replacingIs (Replacing.ScratchTooShort (c .before .n2 .given .0 .0)) ≡ replacing (args .raw .now) (args .number) (args .text .now) (args .row) (length (args .scratch .now)) (length (args .out .now)) = rw (← is) refl in
-    (answer, (told .1, (rw (← is) refl, accepted-is (args .raw .now) (args .number) (args .text .now) (args .row) (length (args .scratch .now)) (length (args .out .now)) (Replacing.ScratchTooShort (c .before .n2 .given .0 .0)) answer)))
+    (answer, (told .1, (rw (← is) refl, room-replaced (args .raw .now) (args .number) (args .text .now) (args .row) (length (args .scratch .now)) (args .out .now) (args .out .now) (Replacing.ScratchTooShort (c .before .n2 .given .0 .0)) answer (rw (← is) refl))))
 
 pub replace-cue-spec : {M : Type 1} → statement M
 replace-cue-spec =

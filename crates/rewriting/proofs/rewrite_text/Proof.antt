@@ -4,7 +4,7 @@ use Rattle.format.specs.Answers.{ifAccepted, andThen}
 use Rattle.format.specs.Reading.{readingIs}
 use Rattle.format.specs.Writing.{writtenRoom}
 use Rattle.format.specs.Rewriting.{lengths, writingOf, rewrittenFile, readAndWrite}
-use Rattle.rewriting.proofs.RewriteLaws.{stops, starts}
+use Rattle.rewriting.proofs.RewriteLaws.{stops, starts, file-is}
 use borrow.Author.Needs.{needs}
 use Rattle.rewriting.proofs.rewrite_text.Statement.{statement}
 use Rattle.rewriting.proofs.rewrite_text.Tie as tie
@@ -55,7 +55,7 @@ same-length-7 : tie.Need-same-length-7
 same-length-7 c = search needs
 
 returns-2 : tie.Need-returns-2
-unfolding readAndWrite lengths readingIs andThen ifAccepted writingOf rewrittenFile writtenRoom
+unfolding readAndWrite lengths readingIs andThen ifAccepted writingOf writtenRoom
 returns-2 c =
     let wrote = c .before .before in
     let known = wrote .before .before .before .before .before .before in
@@ -66,7 +66,8 @@ returns-2 c =
     let found = rw is at told in
     let at = starts (args .text .now) (args .cues .now) (args .regions .now) (args .styles .now) (found .0) (found .1 .0) (found .1 .1 .0) (found .1 .1 .1) in
     let put = rw (at .styles, at .regions, at .cues) at (wrote .write-first .ensures) in
-    rw (← (told .0)) (rw is (put .0), (told .1 .0, (told .1 .1 .0, (told .1 .1 .1, rw is (put .1)))))
+    let file = file-is (args .text .now) (length (args .cues .now)) (length (args .regions .now)) (length (args .styles .now)) _ (found .0) in
+    rw (← (told .0)) (rw is (put .0), (told .1 .0, (told .1 .1 .0, (told .1 .1 .1, rw (is, file) (put .1)))))
 
 pub rewrite-text-spec : {M : Type 1} → statement M
 rewrite-text-spec =

@@ -1,6 +1,6 @@
 -- `writer::write` meets its contract.
 use Rattle.format.specs.Writing.{writingIs}
-use Rattle.writer.proofs.WriteLaws.{not-writable, too-long, too-short, fits}
+use Rattle.writer.proofs.WriteLaws.{promised, not-writable, too-long, too-short, fits}
 use borrow.Author.Needs.{needs}
 use Rattle.writer.proofs.write.Statement.{statement}
 use Rattle.writer.proofs.write.Tie as tie
@@ -17,8 +17,9 @@ returns c =
     let at = c .before in
     let checked = at .before .before in
     let args = checked .before .before .before .args in
-    not-writable (args .text .now) (args .styles .now) (args .regions .now) (args .cues .now) (args .out .now)
-    (checked .check .ensures) (at .list .given .1)
+    promised (args .text .now) (args .styles .now) (args .regions .now) (args .cues .now) (args .out .now)
+    (not-writable (args .text .now) (args .styles .now) (args .regions .now) (args .cues .now) (args .out .now)
+    (checked .check .ensures) (at .list .given .1))
 
 enum-told : tie.Need-enum-told
 enum-told c = search needs
@@ -40,8 +41,9 @@ returns-2 c =
     let told = told-of put in
     let checked = told .before .before in
     let args = checked .before .before .before .args in
-    too-long (args .text .now) (args .styles .now) (args .regions .now) (args .cues .now) (args .out .now)
-    (checked .check .ensures) (told .enum-told .given .1) (put .put-file .ensures) (c .if1 .taken)
+    promised (args .text .now) (args .styles .now) (args .regions .now) (args .cues .now) (args .out .now)
+    (too-long (args .text .now) (args .styles .now) (args .regions .now) (args .cues .now) (args .out .now)
+    (checked .check .ensures) (told .enum-told .given .1) (put .put-file .ensures) (c .if1 .taken))
 
 returns-3 : tie.Need-returns-3
 unfolding writingIs
@@ -50,8 +52,9 @@ returns-3 c =
     let told = told-of put in
     let checked = told .before .before in
     let args = checked .before .before .before .args in
-    too-short (args .text .now) (args .styles .now) (args .regions .now) (args .cues .now) (args .out .now)
-    (checked .check .ensures) (told .enum-told .given .1) (put .put-file .ensures) (c .before .if1 .left) (c .if2 .taken)
+    promised (args .text .now) (args .styles .now) (args .regions .now) (args .cues .now) (args .out .now)
+    (too-short (args .text .now) (args .styles .now) (args .regions .now) (args .cues .now) (args .out .now)
+    (checked .check .ensures) (told .enum-told .given .1) (put .put-file .ensures) (c .before .if1 .left) (c .if2 .taken))
 
 put-file-requires-2 : tie.Need-put-file-requires-2
 put-file-requires-2 c κs = search needs
@@ -68,9 +71,10 @@ returns-4 c =
     let told = told-of put in
     let checked = told .before .before in
     let args = checked .before .before .before .args in
-    fits (args .text .now) (args .styles .now) (args .regions .now) (args .cues .now) (args .out .now)
+    promised (args .text .now) (args .styles .now) (args .regions .now) (args .cues .now) (args .out .now)
+    (fits (args .text .now) (args .styles .now) (args .regions .now) (args .cues .now) (args .out .now)
     (checked .check .ensures) (told .enum-told .given .1) (put .put-file .ensures) (fit .before .if1 .left) (fit .if2 .left)
-    (again .put-file2 .ensures)
+    (again .put-file2 .ensures))
 
 pub write-spec : {M : Type 1} → statement M
 write-spec =
