@@ -1,5 +1,8 @@
 // The second pass over a cue text: the nodes' rows and their strings are stored. The current node's parent and kind come from its row, so a
 // node is left by one look at the table.
+use format::rows::NODE_KIND;
+use format::rows::NODE_PARENT;
+use format::rows::NodeRow;
 use nodes::tokens::Made;
 use nodes::tokens::left_kind;
 use nodes::tokens::node_of;
@@ -28,7 +31,7 @@ pub struct Filled {
 }
 
 // The parent of a node, by its row.
-fn up(rows: &[[u64; 7]], node: usize) -> usize
+fn up(rows: &[NodeRow], node: usize) -> usize
     ensures { λ r. ⌜ r ≡ upIn (now (rows .entry)) node ⌝ }
 {
     if node == 0 {
@@ -38,11 +41,11 @@ fn up(rows: &[[u64; 7]], node: usize) -> usize
         return 0;
     }
     let row = rows[node - 1];
-    row[0] as usize
+    row[NODE_PARENT] as usize
 }
 
 // The kind of a node, by its row.
-fn kind_of(rows: &[[u64; 7]], node: usize) -> u64
+fn kind_of(rows: &[NodeRow], node: usize) -> u64
     ensures { λ r. ⌜ r ≡ kindIn (now (rows .entry)) node ⌝ }
 {
     if node == 0 {
@@ -52,11 +55,11 @@ fn kind_of(rows: &[[u64; 7]], node: usize) -> u64
         return 8;
     }
     let row = rows[node - 1];
-    row[1]
+    row[NODE_KIND]
 }
 
 // The current node behind an end tag. `</ruby>` inside a ruby text leaves both.
-fn leave(rows: &[[u64; 7]], node: usize, named: u64) -> usize
+fn leave(rows: &[NodeRow], node: usize, named: u64) -> usize
     ensures { λ r. ⌜ r ≡ leftIn (now (rows .entry)) node named ⌝ }
 {
     let kind = kind_of(rows, node);
@@ -83,7 +86,7 @@ fn place(from: usize, to: usize, at: usize) -> u64
     at as u64
 }
 
-fn row_of(parent: usize, kind: u64, from: usize, between: usize, to: usize, time: u64) -> [u64; 7]
+fn row_of(parent: usize, kind: u64, from: usize, between: usize, to: usize, time: u64) -> NodeRow
     ensures { λ r. ⌜ r ≡ rowWords parent kind from between to time ⌝ }
 {
     [
@@ -115,7 +118,7 @@ fn put_node(
     time: u64,
     filled: Filled,
     room: &mut [u8],
-    rows: &mut [[u64; 7]],
+    rows: &mut [NodeRow],
 ) -> Filled
     requires { ⌜ (PartsIn (now text) 0 (length (now text)) token) × (length (now text) ≤ maxText) × (filled .used + length (tokenClasses (tokenIs (now text) token)) ≤ maxText) × (filled .count < length (now rows)) ⌝ }
     ensures { λ r. ⌜ Puts (tokenIs (now (text .entry)) token) kind time filled (now (room .entry)) (now (rows .entry)) r (now (room .exit)) (now (rows .exit)) ⌝ }
@@ -133,7 +136,7 @@ fn put_node(
 }
 
 // One token.
-fn turn(text: &[u8], token: Token, filled: Filled, room: &mut [u8], rows: &mut [[u64; 7]]) -> Filled
+fn turn(text: &[u8], token: Token, filled: Filled, room: &mut [u8], rows: &mut [NodeRow]) -> Filled
     requires { ⌜ (PartsIn (now text) 0 (length (now text)) token) × (length (now text) ≤ maxText) × (Fits (madeIs (kindIn (now rows) (filled .current)) (tokenIs (now text) token)) (tokenIs (now text) token) filled (now rows)) ⌝ }
     ensures { λ r. ⌜ Turned (madeIs (kindIn (now (rows .entry)) (filled .current)) (tokenIs (now (text .entry)) token)) (tokenIs (now (text .entry)) token) filled (now (room .entry)) (now (rows .entry)) r (now (room .exit)) (now (rows .exit)) ⌝ }
 {
@@ -150,7 +153,7 @@ fn turn(text: &[u8], token: Token, filled: Filled, room: &mut [u8], rows: &mut [
 }
 
 // Stores the nodes of a text whose times are within their limit, in a room and a table that are long enough.
-pub fn fill(text: &[u8], room: &mut [u8], rows: &mut [[u64; 7]])
+pub fn fill(text: &[u8], room: &mut [u8], rows: &mut [NodeRow])
     requires { ⌜ (length (now text) ≤ maxText) × (anyTimeOver (cueTokens (now text)) ≡ false) × (length (nodeStrings (nodes (now text))) ≤ length (now room)) × (length (nodes (now text)) ≤ length (now rows)) ⌝ }
     ensures { λ _. ⌜ (now (room .exit) ≡ placed (nodeStrings (nodes (now (text .entry)))) (now (room .entry))) × (now (rows .exit) ≡ placed (nodeRows 0 (nodes (now (text .entry)))) (now (rows .entry))) ⌝ }
 {
