@@ -1,8 +1,9 @@
 -- A cue text's nodes: source document 000, section 6.4, "WebVTT cue text parsing rules", as document 01's flat list in order of appearance;
--- how their strings stand in the lent room and their rows in the lent table; and what reading a cue text answers.
-use Prim.Native.Nat.{ℕ, suc, _+_}
-use mathlib.Core.Bool.{Bool, false, cond, not, _&&_, _||_}
-use mathlib.Core.List.{List, [], _∷_, _++_}
+-- how their strings stand in the lent room and their rows in the lent table, and what such a row says; and what reading a cue text answers.
+use Prim.Native.Nat.{ℕ, zero, suc, _+_, _≤_}
+use mathlib.Core.Path.{_≡_}
+use mathlib.Core.Bool.{Bool, true, false, cond, not, _&&_, _||_}
+use mathlib.Core.List.{List, [], _∷_, _++_, map}
 use mathlib.Core.Option.{Option, none, some}
 use lib.Dec.{eqb, ltb}
 use lib.ListN.{length, drop}
@@ -13,6 +14,8 @@ use Rattle.format.specs.Plain.{firstNotPlain}
 use Rattle.format.specs.Times.{Result, failed, got, Time, milliseconds, overHours}
 use Rattle.format.specs.Times as Times
 use Rattle.format.specs.CueText.{Token, stringToken, startTag, endTag, timestampTag, parted, cueTokens}
+use Rattle.format.specs.Rows.{word}
+use Rattle.format.specs.Parts.{bytesAt}
 use Rattle.format.specs.Answers.{Answer, accepted, refused, ifAccepted, placed}
 use Rattle.format.specs.declared.Tree.{Tree}
 use Rattle.format.specs.declared.Tree.the-variants as Tree
@@ -186,6 +189,51 @@ nodeWords place n =
 unfoldable pub nodeRows : ℕ → List Node → List (List ℕ)
 nodeRows place [] = []
 nodeRows place (n ∷ ns) = nodeWords place n ∷ nodeRows (place + length (n .classes) + length (n .value)) ns
+
+-- the parent that a word names: none for 0, else the index one below
+unfoldable pub parentNamed : ℕ → Option ℕ
+parentNamed zero = none
+parentNamed (suc i) = some i
+
+-- the kind of a word, 0 to 9: the inverse of kindWord
+unfoldable pub kindNumbered : ℕ → Kind
+kindNumbered n =
+    cond (eqb n 0) class
+    (cond (eqb n 1) italic
+    (cond (eqb n 2) bold
+    (cond (eqb n 3) underline
+    (cond (eqb n 4) ruby
+    (cond (eqb n 5) rubyText (cond (eqb n 6) voice (cond (eqb n 7) language (cond (eqb n 8) string timestamp))))))))
+
+-- what a node's row says, its strings being in this room: the one decoding of such a row
+unfoldable pub nodeOfRow : List ℕ → List ℕ → Node
+nodeOfRow room w =
+    record {
+      parent = parentNamed (word 0 w);
+      kind = kindNumbered (word 1 w);
+      classes = bytesAt room (word 2 w) (word 3 w);
+      value = bytesAt room (word 4 w) (word 5 w);
+      time = word 6 w;
+    }
+
+-- is this parent the root, or a node before this index
+unfoldable pub parentBefore : ℕ → Option ℕ → Bool
+parentBefore index none = true
+parentBefore index (some i) = ltb i index
+
+-- is each node's parent the root or a node before it, the first node here having this index
+unfoldable pub parentsFirst : ℕ → List Node → Bool
+parentsFirst index [] = true
+parentsFirst index (n ∷ ns) = parentBefore index (n .parent) && parentsFirst (suc index) ns
+
+-- What holds of every accepted tree, whose strings fill this room and whose rows are these
+pub record TreeStands (s room : List ℕ) (rows : List (List ℕ)) : Type 0 where
+  -- the rows say the text's nodes: the room's bytes between a node's words are its classes and its value, its parent's word names its parent
+  pub same : map (nodeOfRow room) rows ≡ nodes s
+  -- "each after its parent"
+  pub parents : parentsFirst 0 (map (nodeOfRow room) rows) ≡ true
+  -- the strings are never longer than the text
+  pub bound : length room ≤ length s
 
 -- the number and the values of each case: the counts of nodes and of the room's bytes; refusal 2 with the length, 6 with the count
 unfoldable pub treeIs : Tree → Answer

@@ -4,10 +4,11 @@ use format::Tree;
 use format::rows::NodeRow;
 use node_sizes::measuring::Need;
 ghost use mathlib.Core.Path.{_≡_};
-ghost use Prim.Native.Nat.{_≤_};
-ghost use lib.ListN.{length};
+ghost use Prim.Native.Nat.{ℕ, _≤_};
+ghost use lib.ListN.{length, take};
 ghost use Rattle.format.specs.Limits.{maxText};
-ghost use Rattle.format.specs.Trees.{treeIs, treeing, treeRoom, treeTable};
+ghost use Rattle.format.specs.Trees.{treeIs, treeing, treeRoom, treeTable, TreeStands};
+ghost use Rattle.format.specs.declared.Tree.the-variants as Answer;
 ghost use Rattle.node_sizes.specs.Needs.{Sized};
 ghost use Rattle.markup.specs.Answering.{sizedAnswer, timedAnswer, Answers};
 
@@ -48,6 +49,7 @@ pub fn tree(text: &[u8], room: &mut [u8], nodes: &mut [NodeRow]) -> Tree
     ensures answer { λ r. ⌜ treeIs r ≡ treeing (now (text .entry)) (length (now (room .entry))) (length (now (nodes .entry))) ⌝ }
     ensures room { λ _. ⌜ now (room .exit) ≡ treeRoom (now (text .entry)) (now (room .entry)) (length (now (nodes .entry))) ⌝ }
     ensures nodes { λ _. ⌜ now (nodes .exit) ≡ treeTable (now (text .entry)) (length (now (room .entry))) (now (nodes .entry)) ⌝ }
+    ensures stands { λ r. ⌜ ((count used : ℕ) → r ≡ Answer.Nodes count used → TreeStands (now (text .entry)) (take used (now (room .exit))) (take count (now (nodes .exit)))) ⌝ }
 {
     if format::MAX_TEXT < text.len() {
         return Tree::TextTooLong;

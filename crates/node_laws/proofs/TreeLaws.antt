@@ -75,13 +75,23 @@ unfolding kindWords
 drop-words [] = refl
 drop-words (o ∷ path) = refl
 
-drop-small : {path : List Open} → Small path → Small (drop 1 path)
-drop-small root = root
-drop-small (below h s) = s
+-- what goes on to hold where the current node is left holds of the nodes that an end tag leaves open
+module _ (P : List Open → Type 0) (left : (path : List Open) → P path → P (drop 1 path)) where
+  keeps-either : (t : Bool) (a b : List Open) → P a → P b → P (cond t a b)
+  keeps-either true a b p q = p
+  keeps-either false a b p q = q
 
-small-cond : (t : Bool) (a b : List Open) → Small a → Small b → Small (cond t a b)
-small-cond true a b p q = p
-small-cond false a b p q = q
+  pub leaving-keeps : (o : Option Kind) (path : List Open) → P path → P (leaving o path)
+  unfolding leaving
+  leaving-keeps o [] p = p
+  leaving-keeps o (q ∷ path) p =
+      let rest = left (q ∷ path) p in
+      keeps-either (isKind o (q .kind)) path _ rest
+      (keeps-either (isKind o ruby && isKind (some (q .kind)) rubyText) (drop 1 path) (q ∷ path) (left path rest) p)
+
+drop-small : (path : List Open) → Small path → Small (drop 1 path)
+drop-small [] root = root
+drop-small (o ∷ path) (below h s) = s
 
 pub leaving-words : (o : Option Kind) {path : List Open} → Small path → kindWords (leaving o path) ≡ leavingWords (wordOf o) (kindWords path)
 unfolding leaving leavingWords kindWords
@@ -94,11 +104,7 @@ leaving-words o (below {o = p} {path = path} h s) =
     by-test (eqb (wordOf o) 4 && eqb (kindWord (p .kind)) 5) (λ y. rw (n, y) (drop-words path)) (λ m. rw (n, m) refl)))
 
 pub leaving-small : (o : Option Kind) {path : List Open} → Small path → Small (leaving o path)
-unfolding leaving
-leaving-small o root = root
-leaving-small o (below {o = p} {path = path} h s) =
-    small-cond (isKind o (p .kind)) path _ s
-    (small-cond (isKind o ruby && isKind (some (p .kind)) rubyText) (drop 1 path) (p ∷ path) (drop-small s) (below h s))
+leaving-small o {path} s = leaving-keeps Small drop-small o path s
 
 leaving-none : (path : List Open) → leaving none path ≡ path
 unfolding leaving isKind

@@ -1,7 +1,7 @@
 -- The second pass: what is stored token by token is the defined nodes' rows and strings, and the current node's row names its parent.
 use Prim.Native.Nat.{ℕ, zero, suc, _+_, _-_, _≤_, _<_}
 use mathlib.Core.Path.{_≡_, refl, sym, ap, _∙_}
-use mathlib.Core.Bool.{Bool, true, false, cond, _&&_, _||_, false≢true}
+use mathlib.Core.Bool.{true, false, cond, _&&_, _||_, false≢true}
 use mathlib.Core.List.{List, [], _∷_, _++_, append-nil, append-assoc}
 use mathlib.Core.Option.{Option, none, some}
 use native.Mathlib.Numerals.{add-one}
@@ -15,7 +15,7 @@ use Rattle.format.specs.Rows.{word}
 use Rattle.format.specs.Answers.{placed}
 use Rattle.format.specs.Texts.{isEmpty}
 use Rattle.format.specs.CueText.{Token, visitEnd, cueTokensFrom, cueTokens}
-use Rattle.format.specs.Trees.{Kind, ruby, rubyText, Node, kindWord, isKind, Open, parentOf, kindOf, leaving, made, pathBehind, nodesFrom, nodes, tokenOver, anyTimeOver, nodeStrings, placeWords, parentWord, nodeWords, nodeRows}
+use Rattle.format.specs.Trees.{Kind, ruby, rubyText, Node, kindWord, Open, parentOf, kindOf, leaving, made, pathBehind, nodesFrom, nodes, tokenOver, anyTimeOver, nodeStrings, placeWords, parentWord, nodeWords, nodeRows}
 use Rattle.laws.proofs.Tests.{by-test, or-first, or-second}
 use Rattle.strings.specs.Stores.{stored, Stores}
 use Rattle.strings.proofs.StoreLaws.{stored-within, _then_}
@@ -24,8 +24,9 @@ use Rattle.nodes.specs.declared.tokens.Made.{Made}
 use Rattle.nodes.specs.declared.tokens.Made.the-variants as Made
 use Rattle.node_rows.specs.Rows.{noRow, upIn, kindIn, leftIn, spanWords, rowWords, Puts, Turned, Fits}
 use Rattle.node_rows.specs.declared.filling.Filled.{Filled}
-use Rattle.node_laws.proofs.TreeLaws.{is-kind, Small, root, below, leaving-small, Gives, ignored, above, attaches, gives, nodeStrings-append}
+use Rattle.node_laws.proofs.TreeLaws.{is-kind, Small, root, below, leaving-keeps, leaving-small, Gives, ignored, above, attaches, gives, nodeStrings-append}
 use Rattle.node_laws.proofs.RoomLaws.{room-bound}
+use Rattle.node_laws.proofs.RowLaws.{length-rows}
 
 -- a node's strings and its row, put one after the other
 pub puts-node :
@@ -122,30 +123,14 @@ linked-more ns n (linked {o = o} h p k l) =
     linked {o = o} (omega (arith, length-append ns (n ∷ []))) (parent-before n ns (o .index) h ∙ p) (kind-before n ns (o .index) h ∙ k)
     (linked-more ns n l)
 
-drop-linked : (ns : List Node) {path : List Open} → Linked ns path → Linked ns (drop 1 path)
-drop-linked ns at-root = at-root
-drop-linked ns (linked h p k l) = l
-
-linked-cond : (t : Bool) (ns : List Node) (a b : List Open) → Linked ns a → Linked ns b → Linked ns (cond t a b)
-linked-cond true ns a b p q = p
-linked-cond false ns a b p q = q
-
-leaving-linked : (o : Option Kind) (ns : List Node) {path : List Open} → Linked ns path → Linked ns (leaving o path)
-unfolding leaving
-leaving-linked o ns at-root = at-root
-leaving-linked o ns (linked {o = p} {path = path} h a k l) =
-    linked-cond (isKind o (p .kind)) ns path _ l
-    (linked-cond (isKind o ruby && isKind (some (p .kind)) rubyText) ns (drop 1 path) (p ∷ path) (drop-linked ns l) (linked h a k l))
+drop-linked : (ns : List Node) (path : List Open) → Linked ns path → Linked ns (drop 1 path)
+drop-linked ns [] at-root = at-root
+drop-linked ns (o ∷ path) (linked h p k l) = l
 
 -- the current node's row
 module _ (ns : List Node) (rest : List (List ℕ)) where
   abbrev rows : List (List ℕ)
   rows = nodeRows 0 ns ++ rest
-
-  length-rows : (place : ℕ) (ms : List Node) → length (nodeRows place ms) ≡ length ms
-  unfolding nodeRows
-  length-rows place [] = refl
-  length-rows place (n ∷ ms) = ap suc (length-rows (place + length (n .classes) + length (n .value)) ms)
 
   has-row : (i : ℕ) → i < length ns → noRow rows (suc i) ≡ false
   unfolding noRow
@@ -181,7 +166,7 @@ module _ (ns : List Node) (rest : List (List ℕ)) where
   unfolding leftIn leaving kindOf
   left-below o p path h l =
       let own = up-is l in
-      let next = up-is (drop-linked ns l) in
+      let next = up-is (drop-linked ns (p ∷ path) l) in
       rw (kind-is l, own, next, is-kind o (p .kind) h, is-kind o ruby (omega arith), is-kind (some (p .kind)) rubyText (omega arith))
       (by-test (eqb (wordOf o) (kindWord (p .kind)))
       (λ y. rw y refl)
@@ -216,7 +201,7 @@ table-more rows₀ ns n h =
     let a = nodeRows 0 ns in
     let w = nodeWords (length (nodeStrings ns)) n in
     let put : set (a ++ drop i rows₀) i w ≡ a ++ w ∷ drop (i + 1) rows₀ =
-    rw (add-one i, drop-cons rows₀ i [] h) (set-at a (getD rows₀ i []) (drop (suc i) rows₀) w i (length-rows [] [] 0 ns)) in
+    rw (add-one i, drop-cons rows₀ i [] h) (set-at a (getD rows₀ i []) (drop (suc i) rows₀) w i (length-rows 0 ns)) in
     let e : 0 + length (nodeStrings ns) ≡ length (nodeStrings ns) = omega arith in
     put ∙ rw (rows-more 0 ns n, e, length-append ns (n ∷ [])) (sym (append-assoc a (w ∷ []) (drop (i + 1) rows₀)))
 
@@ -279,7 +264,7 @@ module _ (s room₀ : List ℕ) (rows₀ : List (List ℕ)) where
 
     pub filling-table : length s ≤ at → rows ≡ placed (nodeRows 0 (nodes s)) rows₀
     unfolding placed
-    filling-table h = let e = nothing-left h in rw (e, length-rows [] [] 0 (f .done)) (f .table)
+    filling-table h = let e = nothing-left h in rw (e, length-rows 0 (f .done)) (f .table)
 
     -- the current node's kind
     pub filling-kind : kindIn rows (m .current) ≡ wordOf (kindOf (f .path))
@@ -322,7 +307,7 @@ module _ (s room₀ : List ℕ) (rows₀ : List (List ℕ)) where
             current =
                 rw (f .table, f .current) (left-is (f .done) (drop i rows₀) (leftKind tok) (f .small) (f .links));
             small = leaving-small (leftKind tok) (f .small);
-            links = leaving-linked (leftKind tok) (f .done) (f .links);
+            links = leaving-keeps (Linked (f .done)) (drop-linked (f .done)) (leftKind tok) (f .path) (f .links);
             table = f .table;
             strings = f .strings;
             over = still-within;
@@ -384,7 +369,7 @@ module _ (s room₀ : List ℕ) (rows₀ : List (List ℕ)) where
               arith,
               more-rows,
               length-append (nodeRows 0 (f .done)) (drop i rows₀),
-              length-rows [] [] 0 (f .done),
+              length-rows 0 (f .done),
               length-drop i rows₀,
             ))
 
