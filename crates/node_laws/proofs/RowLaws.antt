@@ -1,6 +1,6 @@
 -- A node's row means one thing: what is decoded of the rows of a cue text's nodes, with their strings in the room, is those nodes again, each
 -- after its parent.
-use Prim.Native.Nat.{ℕ, suc, _+_, _-_, _≤_, _<_}
+use Prim.Native.Nat.{ℕ, zero, suc, _+_, _-_, _≤_, _<_}
 use mathlib.Core.Path.{_≡_, refl, sym, ap}
 use mathlib.Core.Bool.{true, _&&_}
 use mathlib.Core.List.{List, [], _∷_, _++_, map, append-assoc}
@@ -13,7 +13,9 @@ use Rattle.format.specs.Times.{Time}
 use Rattle.format.specs.CueText.{Token, stringToken, startTag, endTag, timestampTag, cueTokens}
 use Rattle.format.specs.Rows.{word}
 use Rattle.format.specs.Parts.{bytesAt}
-use Rattle.format.specs.Trees.{Kind, class, italic, bold, underline, ruby, rubyText, voice, language, string, timestamp, Node, kindWord, kindNamed, Open, parentOf, kindOf, attached, tagTime, element, stamped, made, entering, pathBehind, nodesFrom, nodes, nodeStrings, placeWords, parentWord, nodeWords, nodeRows, parentNamed, kindNumbered, nodeOfRow, parentBefore, parentsFirst, TreeStands}
+use Rattle.format.specs.Trees.{Node, kindWord, kindNamed, Open, parentOf, kindOf, attached, tagTime, element, stamped, made, entering, pathBehind, nodesFrom, nodes, nodeStrings, placeWords, parentWord, nodeWords, nodeRows, parentNamed, kindNumbered, nodeOfRow, parentBefore, parentsFirst, TreeStands}
+use Rattle.format.specs.declared.kinds.NodeKind.{NodeKind}
+use Rattle.format.specs.declared.kinds.NodeKind.the-variants as NodeKind
 use Rattle.laws.proofs.Tests.{and-left, and-right, and-both}
 use Rattle.node_laws.proofs.TreeLaws.{leaving-keeps}
 use Rattle.node_laws.proofs.RoomLaws.{room-bound}
@@ -24,18 +26,24 @@ unfolding parentNamed parentWord
 parent-named none = refl
 parent-named (some i) = refl
 
-pub kind-numbered : (k : Kind) → kindNumbered (kindWord k) ≡ k
+-- and a word is the word of the parent that it names
+pub named-word : (w : ℕ) → parentWord (parentNamed w) ≡ w
+unfolding parentNamed parentWord
+named-word zero = refl
+named-word (suc i) = refl
+
+pub kind-numbered : (k : NodeKind) → kindNumbered (kindWord k) ≡ k
 unfolding kindNumbered
-kind-numbered class = refl
-kind-numbered italic = refl
-kind-numbered bold = refl
-kind-numbered underline = refl
-kind-numbered ruby = refl
-kind-numbered rubyText = refl
-kind-numbered voice = refl
-kind-numbered language = refl
-kind-numbered string = refl
-kind-numbered timestamp = refl
+kind-numbered NodeKind.Class = refl
+kind-numbered NodeKind.Italic = refl
+kind-numbered NodeKind.Bold = refl
+kind-numbered NodeKind.Underline = refl
+kind-numbered NodeKind.Ruby = refl
+kind-numbered NodeKind.RubyText = refl
+kind-numbered NodeKind.Voice = refl
+kind-numbered NodeKind.Language = refl
+kind-numbered NodeKind.String = refl
+kind-numbered NodeKind.Timestamp = refl
 
 -- a string's place is two words
 two-words : (place : ℕ) (x : List ℕ) → placeWords place x ≡ word 0 (placeWords place x) ∷ word 1 (placeWords place x) ∷ []
@@ -127,7 +135,7 @@ record Turn (path : List Open) (index : ℕ) (t : Token) : Type 0 where
 
 -- by what the token gives: a start tag's node, which becomes the current one, or a timestamp's
 element-turn :
-    (path : List Open) (index : ℕ) (name : List ℕ) (classes : List (List ℕ)) (annotation : List ℕ) (o : Option Kind)
+    (path : List Open) (index : ℕ) (name : List ℕ) (classes : List (List ℕ)) (annotation : List ℕ) (o : Option NodeKind)
     → o ≡ attached (kindOf path) name
     → Before index path
     → Turn path index (startTag name classes annotation)
