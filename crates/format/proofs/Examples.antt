@@ -12,6 +12,7 @@ use Rattle.format.specs.Bytes.{digit}
 use Rattle.format.specs.Texts.{startsWith, endsWith, withoutLast, isEmpty, all, run, pastRun}
 use Rattle.format.specs.Numbers.{numberFrom, someDigits, decimalOf, decimal, above, millionths, upTo100, percentage}
 use Rattle.format.specs.Times.{onGot, expect, hoursFirst, field, threeValues, inRange, lastSteps, timestamp, milliseconds}
+use Rattle.format.specs.Trees.{parentWord, placeWords, nodeWords}
 use Rattle.format.specs.Examples.{Example, examples, wholeTime, readsAs, reads, RowsHold}
 
 sameResult : Option ℕ → Option ℕ → Bool
@@ -51,4 +52,5 @@ examples-hold d i l = right-at examples d all-right i l
 
 -- the words of a row stand in the order that callers rely on
 pub rows-hold : RowsHold
-rows-hold = record { cue = (refl, refl); newCue = (refl, refl); region = (refl, refl); style = (refl, refl) }
+unfolding nodeWords parentWord placeWords
+rows-hold = record { cue = (refl, refl); newCue = (refl, refl); region = (refl, refl); style = (refl, refl); node = refl }

@@ -10,6 +10,8 @@ use Rattle.format.specs.Bytes.{ascii}
 use Rattle.format.specs.Numbers.{percentage}
 use Rattle.format.specs.Times.{Result, failed, got, Time, timestamp, milliseconds}
 use Rattle.format.specs.Rows.{cueWords, newCueWords, regionWords, styleWords, cueEntry, newCueName, regionEntry, styleEntry}
+use Rattle.format.specs.Trees.{Node, nodeWords}
+use Rattle.format.specs.declared.kinds.NodeKind.the-variants as NodeKind
 use Rattle.format.specs.declared.settings.Span.{Span}
 use Rattle.format.specs.declared.settings.Direction.the-variants as Direction
 use Rattle.format.specs.declared.settings.Line.the-variants as Line
@@ -73,8 +75,7 @@ readsAs share s = percentage s
 unfoldable pub reads : Example → Option ℕ
 reads e = readsAs (e .kind) (e .text)
 
--- The order of a row's words, which callers in any language rely on: a cue, a new cue's region's name and a region whose words all differ from
--- their neighbours, with their rows.
+-- The order of a row's words, which callers in any language rely on: entries whose words differ from each other, with their rows.
 abbrev pub cueExample : CueEntry
 cueExample =
     record {
@@ -113,9 +114,13 @@ regionExample =
 abbrev pub regionRowExample : List ℕ
 regionRowExample = 10 ∷ 20 ∷ 30 ∷ 40 ∷ 50 ∷ 60 ∷ 70 ∷ 80 ∷ 1 ∷ []
 
+abbrev pub nodeExample : Node
+nodeExample = record { parent = some 3; kind = NodeKind.Voice; classes = ascii "ab"; value = ascii "cde"; time = 0 }
+
 -- each is coded as its row, and its row is decoded as it
 pub record RowsHold : Type 0 where
   pub cue : (cueWords cueExample ≡ cueRowExample) × (cueEntry cueRowExample ≡ cueExample)
   pub newCue : (newCueWords cueExample nameExample ≡ newCueRowExample) × (newCueName newCueRowExample ≡ nameExample)
   pub region : (regionWords regionExample ≡ regionRowExample) × (regionEntry regionRowExample ≡ regionExample)
   pub style : (styleWords nameExample ≡ 100 ∷ 110 ∷ []) × (styleEntry (100 ∷ 110 ∷ []) ≡ nameExample)
+  pub node : nodeWords 10 nodeExample ≡ 4 ∷ 6 ∷ 10 ∷ 12 ∷ 12 ∷ 15 ∷ 0 ∷ []

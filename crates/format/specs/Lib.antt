@@ -16,7 +16,6 @@ pub mod Rows
 pub mod Contents
 pub mod Writable
 pub mod Written
-pub mod Examples
 pub mod Answers
 pub mod Converting
 pub mod Reading
@@ -26,3 +25,4 @@ pub mod Rewriting
 pub mod Replacing
 pub mod CueText
 pub mod Trees
+pub mod Examples

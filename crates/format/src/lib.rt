@@ -1,6 +1,7 @@
 // What the definitions speak of: the limits, and the answers that the public functions give.
 // The definitions themselves are in specs/; there is no algorithm here.
 
+pub mod kinds;
 pub mod regions;
 pub mod rows;
 pub mod settings;

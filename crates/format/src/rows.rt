@@ -106,3 +106,26 @@ pub struct CueEntry {
     pub align: Align,
     pub region: RegionIndex,
 }
+
+// The row of a node of a cue text. An empty string is 0, 0.
+pub const NODE_WORDS: usize = 7;
+
+pub type NodeRow = [u64; NODE_WORDS];
+
+// 0 where the parent is the root, else the parent's index and one.
+pub const NODE_PARENT: usize = 0;
+
+pub const NODE_KIND: usize = 1;
+
+// The classes in the room, from a place up to another.
+pub const NODE_CLASSES_FROM: usize = 2;
+
+pub const NODE_CLASSES_TO: usize = 3;
+
+// The value in the room, from a place up to another.
+pub const NODE_VALUE_FROM: usize = 4;
+
+pub const NODE_VALUE_TO: usize = 5;
+
+// A timestamp's milliseconds, else 0.
+pub const NODE_TIME: usize = 6;

@@ -1,6 +1,7 @@
 // Prints on standard output the nodes of a cue text, a line each, or the refusal.
 use super::node_lines;
 use format::Tree;
+use format::rows::NodeRow;
 ghost use mathlib.Core.Path.{_≡_};
 ghost use Rattle.format.specs.Rewriting.{refusalNumber};
 ghost use Rattle.format.specs.Trees.{treeIs};
@@ -20,7 +21,7 @@ fn refusal_number(answer: Tree) -> u64
 }
 
 // The lines of a cue text. The strings of its nodes go to `room`, and their rows to the table.
-pub fn show(text: &[u8], room: &mut [u8], nodes: &mut [[u64; 7]]) {
+pub fn show(text: &[u8], room: &mut [u8], nodes: &mut [NodeRow]) {
     let answer = markup::tree(text, room, nodes);
     let Tree::Nodes { count, used: _ } = answer else {
         super::refuse(refusal_number(answer));
@@ -30,7 +31,7 @@ pub fn show(text: &[u8], room: &mut [u8], nodes: &mut [[u64; 7]]) {
 }
 
 // The lines of an open file, read into `raw` and taken as it is. More input than `raw` holds is refusal 1.
-pub fn show_file(file: i32, raw: &mut [u8], room: &mut [u8], nodes: &mut [[u64; 7]]) {
+pub fn show_file(file: i32, raw: &mut [u8], room: &mut [u8], nodes: &mut [NodeRow]) {
     let n = io::read_full(file, raw);
     if super::refuse_more(file) {
         return;

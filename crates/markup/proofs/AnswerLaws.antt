@@ -1,18 +1,22 @@
--- Laws of the answer of reading a cue text: which check gives it, and that a refusal leaves the room and the table as they were.
+-- Laws of the answer of reading a cue text: which check gives it, that a refusal leaves the room and the table as they were, and that the
+-- rows and the strings of an accepted text stand in them.
 use Prim.Native.Nat.{ℕ, _≤_, _<_}
-use mathlib.Core.Path.{_≡_, refl, sym, _∙_}
+use mathlib.Core.Path.{_≡_, refl, sym, ap, _∙_}
 use mathlib.Core.Bool.{true, false}
 use mathlib.Core.List.{List, [], _∷_}
-use lib.ListN.{length}
+use lib.Dec.{ltb}
+use lib.ListN.{length, take}
 use borrow.Author.Tests.{lt-ltb, le-ltb, ltb-true, ltb-false}
 use Rattle.format.specs.Limits.{maxText}
 use Rattle.format.specs.Plain.{firstNotPlain}
 use Rattle.format.specs.CueText.{cueTokens}
-use Rattle.format.specs.Trees.{anyTimeOver, nodes, nodeStrings, nodeRows, treeIs, treeing, treeRoom, treeTable}
+use Rattle.format.specs.Trees.{anyTimeOver, nodes, nodeStrings, nodeRows, treeIs, treeing, treeRoom, treeTable, TreeStands}
 use Rattle.format.specs.Answers.{Answer, accepted, refused, ifAccepted, placed}
 use Rattle.format.specs.Converting.{plainnessIs, testing}
 use Rattle.format.specs.declared.Tree.{Tree}
-use Rattle.laws.proofs.Answers.{not-plain, all-plain}
+use Rattle.format.specs.declared.Tree.the-variants as Tree
+use Rattle.laws.proofs.Answers.{behind-test, front, not-plain, all-plain}
+use Rattle.node_laws.proofs.RowLaws.{length-rows, tree-stands}
 use Rattle.node_sizes.specs.Needs.{Sized}
 use Rattle.markup.specs.Answering.{sizedAnswer, timedAnswer, Answers}
 
@@ -77,6 +81,19 @@ module _ (s : List ℕ) (room table : ℕ) where
     unfolding treeing timedAnswer sizedAnswer
     plain-answer l = rw (le-ltb maxText (length s) h, le-ltb (firstNotPlain s) (length s) l)
 
+-- an accepting answer has the counts of the nodes and of their strings' bytes
+accepted-counts :
+    (s : List ℕ) (room table : ℕ) (vs : List ℕ)
+    → treeing s room table ≡ accepted vs
+    → accepted (length (nodes s) ∷ length (nodeStrings (nodes s)) ∷ []) ≡ accepted vs
+unfolding treeing
+accepted-counts s room table vs e =
+    let short = behind-test (ltb maxText (length s)) 1 [] vs _ e .1 in
+    let plain = behind-test (ltb (firstNotPlain s) (length s)) 3 (firstNotPlain s ∷ []) vs _ short .1 in
+    let within = behind-test (anyTimeOver (cueTokens s)) 5 [] vs _ plain .1 in
+    let fits = behind-test (ltb room (length (nodeStrings (nodes s)))) 2 (length (nodeStrings (nodes s)) ∷ []) vs _ within .1 in
+    behind-test (ltb table (length (nodes s))) 6 (length (nodes s) ∷ []) vs _ fits .1
+
 -- the room and the table of the whole
 module _ {s : List ℕ} {r : Tree} {room room′ : List ℕ} {table table′ : List (List ℕ)}
     (a : Answers (treeing s (length room) (length table)) s r room room′ table table′) where
@@ -88,10 +105,25 @@ module _ {s : List ℕ} {r : Tree} {room room′ : List ℕ} {table table′ : L
   unfolding treeTable
   table-is = a .rows
 
-  pub all-three :
+  -- an accepting answer says how much of the room and of the table is the tree
+  pub stands : (count used : ℕ) → r ≡ Tree.Nodes count used → TreeStands s (take used room′) (take count table′)
+  unfolding treeIs ifAccepted
+  stands count used q =
+      let e : treeing s (length room) (length table) ≡ accepted (count ∷ used ∷ []) = sym (a .is) ∙ ap treeIs q in
+      let counts = accepted-counts s (length room) (length table) (count ∷ used ∷ []) e in
+      let c : count ≡ length (nodeRows 0 (nodes s)) = cc (length-rows 0 (nodes s)) in
+      let u : used ≡ length (nodeStrings (nodes s)) = cc in
+      rw (
+        front (nodeStrings (nodes s)) room room′ used (rw e at (a .strings)) u,
+        front (nodeRows 0 (nodes s)) table table′ count (rw e at (a .rows)) c,
+      ) (tree-stands s)
+
+  pub all-four :
       (treeIs r ≡ treeing s (length room) (length table))
-      × ((room′ ≡ treeRoom s room (length table)) × (table′ ≡ treeTable s (length room) table))
-  all-three = (a .is, (room-is, table-is))
+      × ((room′ ≡ treeRoom s room (length table))
+      × ((table′ ≡ treeTable s (length room) table)
+      × ((count used : ℕ) → r ≡ Tree.Nodes count used → TreeStands s (take used room′) (take count table′))))
+  all-four = (a .is, (room-is, (table-is, stands)))
 
 -- what the test of a text tells, as orders
 pub plain-told : (s : List ℕ) → accepted [] ≡ testing s → length s ≤ firstNotPlain s

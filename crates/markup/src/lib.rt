@@ -1,12 +1,14 @@
 // One cue's text read into a flat list of nodes. Any bytes and any room and table are taken, and nothing is asked of the caller.
 use format::Plainness;
 use format::Tree;
+use format::rows::NodeRow;
 use node_sizes::measuring::Need;
 ghost use mathlib.Core.Path.{_≡_};
-ghost use Prim.Native.Nat.{_≤_};
-ghost use lib.ListN.{length};
+ghost use Prim.Native.Nat.{ℕ, _≤_};
+ghost use lib.ListN.{length, take};
 ghost use Rattle.format.specs.Limits.{maxText};
-ghost use Rattle.format.specs.Trees.{treeIs, treeing, treeRoom, treeTable};
+ghost use Rattle.format.specs.Trees.{treeIs, treeing, treeRoom, treeTable, TreeStands};
+ghost use Rattle.format.specs.declared.Tree.the-variants as Answer;
 ghost use Rattle.node_sizes.specs.Needs.{Sized};
 ghost use Rattle.markup.specs.Answering.{sizedAnswer, timedAnswer, Answers};
 
@@ -16,7 +18,7 @@ fn read_sized(
     count: usize,
     used: usize,
     room: &mut [u8],
-    nodes: &mut [[u64; 7]],
+    nodes: &mut [NodeRow],
 ) -> Tree
     requires { ⌜ (length (now text) ≤ maxText) × (Sized (now text) count used) ⌝ }
     ensures { λ r. ⌜ Answers (sizedAnswer (now (text .entry)) (length (now (room .entry))) (length (now (nodes .entry)))) (now (text .entry)) r (now (room .entry)) (now (room .exit)) (now (nodes .entry)) (now (nodes .exit)) ⌝ }
@@ -32,7 +34,7 @@ fn read_sized(
 }
 
 // Check 5 and those behind it.
-fn read_plain(text: &[u8], room: &mut [u8], nodes: &mut [[u64; 7]]) -> Tree
+fn read_plain(text: &[u8], room: &mut [u8], nodes: &mut [NodeRow]) -> Tree
     requires { ⌜ length (now text) ≤ maxText ⌝ }
     ensures { λ r. ⌜ Answers (timedAnswer (now (text .entry)) (length (now (room .entry))) (length (now (nodes .entry)))) (now (text .entry)) r (now (room .entry)) (now (room .exit)) (now (nodes .entry)) (now (nodes .exit)) ⌝ }
 {
@@ -43,10 +45,11 @@ fn read_plain(text: &[u8], room: &mut [u8], nodes: &mut [[u64; 7]]) -> Tree
 }
 
 // Reads one cue's text into nodes: their strings stand in the room one after the other from its start, and their rows in the table.
-pub fn tree(text: &[u8], room: &mut [u8], nodes: &mut [[u64; 7]]) -> Tree
+pub fn tree(text: &[u8], room: &mut [u8], nodes: &mut [NodeRow]) -> Tree
     ensures answer { λ r. ⌜ treeIs r ≡ treeing (now (text .entry)) (length (now (room .entry))) (length (now (nodes .entry))) ⌝ }
     ensures room { λ _. ⌜ now (room .exit) ≡ treeRoom (now (text .entry)) (now (room .entry)) (length (now (nodes .entry))) ⌝ }
     ensures nodes { λ _. ⌜ now (nodes .exit) ≡ treeTable (now (text .entry)) (length (now (room .entry))) (now (nodes .entry)) ⌝ }
+    ensures stands { λ r. ⌜ ((count used : ℕ) → r ≡ Answer.Nodes count used → TreeStands (now (text .entry)) (take used (now (room .exit))) (take count (now (nodes .exit)))) ⌝ }
 {
     if format::MAX_TEXT < text.len() {
         return Tree::TextTooLong;

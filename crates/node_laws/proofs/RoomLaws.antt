@@ -12,7 +12,9 @@ use Rattle.format.specs.Bytes.{less, solidus, digit, white, space}
 use Rattle.format.specs.Texts.{isEmpty, run, pastRun}
 use Rattle.format.specs.Times.{Time}
 use Rattle.format.specs.CueText.{Token, stringToken, startTag, endTag, timestampTag, visitEnd, cueTokensFrom, cueTokens}
-use Rattle.format.specs.Trees.{Kind, Node, voice, language, isKind, Open, kindOf, attached, classString, tagTime, valueFor, element, stamped, made, pathBehind, nodesFrom, nodes, nodeStrings}
+use Rattle.format.specs.Trees.{Node, isKind, Open, kindOf, attached, classString, tagTime, valueFor, element, stamped, made, pathBehind, nodesFrom, nodes, nodeStrings}
+use Rattle.format.specs.declared.kinds.NodeKind.{NodeKind}
+use Rattle.format.specs.declared.kinds.NodeKind.the-variants as NodeKind
 use Rattle.laws.proofs.Tests.{by-test}
 use Rattle.laws.proofs.Runs.{run-length, pastRun-drop}
 use Rattle.tokenizer.specs.Tags.{inName, classesOf, startOf, tagOf}
@@ -23,8 +25,7 @@ use Rattle.strings.proofs.TextLaws.{decoded-length, collapsed-length, class-str
 use Rattle.nodes.specs.Tokens.{madeIs, tokenClasses, tokenValue}
 use Rattle.nodes.specs.declared.tokens.Made.{Made}
 use Rattle.nodes.specs.declared.tokens.Made.the-variants as Made
-use Rattle.stack.specs.Kinds.{topOf}
-use Rattle.node_laws.specs.Sizes.{kindsBehind, madeCount, madeLength, countFrom, lengthFrom}
+use Rattle.node_laws.specs.Sizes.{topKind, kindsBehind, madeCount, madeLength, countFrom, lengthFrom}
 use Rattle.node_laws.proofs.TreeLaws.{nodeStrings-append}
 
 -- the bytes that a token's strings have at the most
@@ -130,12 +131,12 @@ sizes-bound s = bound (length s) s (omega arith) .0
 
 -- what nodes hold of their token
 element-size :
-    (parent : Option ℕ) (classes annotation : List ℕ) (o : Option Kind)
+    (parent : Option ℕ) (classes annotation : List ℕ) (o : Option NodeKind)
     → length (nodeStrings (element parent classes annotation o)) ≤ length classes + length annotation
 unfolding element nodeStrings valueFor
 element-size parent classes annotation none = omega arith
 element-size parent classes annotation (some k) =
-    by-test (isKind (some k) voice || isKind (some k) language)
+    by-test (isKind (some k) NodeKind.Voice || isKind (some k) NodeKind.Language)
     (λ y. rw y (omega (arith, length-append (classes ++ annotation) [], length-append classes annotation)))
     (λ n. rw n (omega (arith, length-append (classes ++ []) [], length-append classes [])))
 
@@ -167,18 +168,18 @@ room-bound s = omega (arith, nodes-size [] 0 (cueTokens s), sizes-bound s)
 
 -- the same of what is counted by kinds
 length-size : (m : Made) (t : Token) → madeLength m t ≤ size t
-unfolding madeLength size tokenClasses tokenValue
+unfolding madeLength size tokenClasses tokenValue valueFor
 length-size Made.None t = omega arith
 length-size Made.Over t = omega arith
 length-size (Made.Node k time) (stringToken value) = omega arith
-length-size (Made.Node k time) (startTag name classes annotation) = by-test (eqb k 6 || eqb k 7) (λ y. rw y (omega arith)) (λ n. rw n (omega arith))
+length-size (Made.Node k time) (startTag name classes annotation) = by-test (isKind (some k) NodeKind.Voice || isKind (some k) NodeKind.Language) (λ y. rw y (omega arith)) (λ n. rw n (omega arith))
 length-size (Made.Node k time) (endTag name) = omega arith
 length-size (Made.Node k time) (timestampTag value) = omega arith
 
-lengths-size : (ks : List ℕ) (ts : List Token) → lengthFrom ks ts ≤ sizes ts
+lengths-size : (ks : List NodeKind) (ts : List Token) → lengthFrom ks ts ≤ sizes ts
 unfolding lengthFrom sizes
 lengths-size ks [] = omega arith
-lengths-size ks (t ∷ ts) = omega (arith, length-size (madeIs (topOf ks) t) t, lengths-size (kindsBehind ks t) ts)
+lengths-size ks (t ∷ ts) = omega (arith, length-size (madeIs (topKind ks) t) t, lengths-size (kindsBehind ks t) ts)
 
 count-one : (m : Made) → madeCount m ≤ 1
 unfolding madeCount
@@ -186,10 +187,10 @@ count-one Made.None = omega arith
 count-one Made.Over = omega arith
 count-one (Made.Node k time) = omega arith
 
-counts-size : (ks : List ℕ) (ts : List Token) → countFrom ks ts ≤ length ts
+counts-size : (ks : List NodeKind) (ts : List Token) → countFrom ks ts ≤ length ts
 unfolding countFrom
 counts-size ks [] = omega arith
-counts-size ks (t ∷ ts) = omega (arith, count-one (madeIs (topOf ks) t), counts-size (kindsBehind ks t) ts)
+counts-size ks (t ∷ ts) = omega (arith, count-one (madeIs (topKind ks) t), counts-size (kindsBehind ks t) ts)
 
 pub length-bound : (s : List ℕ) → lengthFrom [] (cueTokens s) ≤ length s
 length-bound s = omega (arith, lengths-size [] (cueTokens s), sizes-bound s)

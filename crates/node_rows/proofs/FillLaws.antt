@@ -1,109 +1,92 @@
 -- The second pass: what is stored token by token is the defined nodes' rows and strings, and the current node's row names its parent.
 use Prim.Native.Nat.{ℕ, zero, suc, _+_, _-_, _≤_, _<_}
 use mathlib.Core.Path.{_≡_, refl, sym, ap, _∙_}
-use mathlib.Core.Bool.{Bool, true, false, cond, _&&_, _||_, false≢true}
+use mathlib.Core.Bool.{true, false, cond, _&&_, _||_, false≢true}
 use mathlib.Core.List.{List, [], _∷_, _++_, append-nil, append-assoc}
 use mathlib.Core.Option.{Option, none, some}
 use native.Mathlib.Numerals.{add-one}
 use native.Mathlib.Omega.{arith}
 use lib.Dec.{eqb, ltb}
-use lib.ListN.{length, getD, drop, set, length-append, length-drop, drop-of-length-le}
-use lib.Seq.{drop-cons, set-at, drop-drop, take-append-seam, drop-append-add}
-use borrow.Author.Tests.{eq-eqb, ne-eqb, le-ltb, ltb-true}
+use lib.ListN.{length, getD, drop, set, length-append, length-drop, drop-of-length-le, List·getD-append}
+use lib.Seq.{drop-cons, set-at, getD-append-seam, drop-drop, take-append-seam, drop-append-add}
+use borrow.Author.Tests.{eq-eqb, ne-eqb, le-ltb}
 use Rattle.format.specs.Limits.{maxText}
-use Rattle.format.specs.Rows.{word}
 use Rattle.format.specs.Answers.{placed}
 use Rattle.format.specs.Texts.{isEmpty}
 use Rattle.format.specs.CueText.{Token, visitEnd, cueTokensFrom, cueTokens}
-use Rattle.format.specs.Trees.{Kind, ruby, rubyText, Node, kindWord, isKind, Open, parentOf, kindOf, leaving, made, pathBehind, nodesFrom, nodes, tokenOver, anyTimeOver, nodeStrings, placeWords, parentWord, nodeWords, nodeRows}
+use Rattle.format.specs.Trees.{Node, kindWord, isKind, Open, parentOf, kindOf, leaving, made, pathBehind, nodesFrom, nodes, tokenOver, anyTimeOver, nodeStrings, placeWords, parentWord, nodeWords, nodeRows, nodeOfRow}
+use Rattle.format.specs.declared.kinds.NodeKind.{NodeKind}
+use Rattle.format.specs.declared.kinds.NodeKind.the-variants as NodeKind
 use Rattle.laws.proofs.Tests.{by-test, or-first, or-second}
 use Rattle.strings.specs.Stores.{stored, Stores}
 use Rattle.strings.proofs.StoreLaws.{stored-within, _then_}
-use Rattle.nodes.specs.Tokens.{wordOf, madeIs, tokenClasses, tokenValue, leftKind}
+use Rattle.nodes.specs.Tokens.{madeIs, tokenClasses, tokenValue, leftKind}
 use Rattle.nodes.specs.declared.tokens.Made.{Made}
-use Rattle.nodes.specs.declared.tokens.Made.the-variants as Made
-use Rattle.node_rows.specs.Rows.{noRow, upIn, kindIn, leftIn, spanWords, rowWords, Puts, Turned, Fits}
+use Rattle.node_rows.specs.Rows.{noRow, nodeNamed, upIn, kindIn, leftOf, leftIn, nodeBelow, Puts, Turned, Fits}
 use Rattle.node_rows.specs.declared.filling.Filled.{Filled}
-use Rattle.node_laws.proofs.TreeLaws.{is-kind, Small, root, below, leaving-small, Gives, ignored, above, attaches, gives, nodeStrings-append}
+use Rattle.node_laws.proofs.TreeLaws.{leaving-keeps, Gives, ignored, above, attaches, gives, nodeStrings-append}
 use Rattle.node_laws.proofs.RoomLaws.{room-bound}
+use Rattle.node_laws.proofs.RowLaws.{parent-named, named-word, kind-numbered, length-rows}
 
 -- a node's strings and its row, put one after the other
 pub puts-node :
-    {t : Token} {kind time : ℕ} {m : Filled} {room r room′ row : List ℕ} {rows : List (List ℕ)} {between to current : ℕ}
+    {t : Token} {kind : NodeKind} {time : ℕ} {m : Filled} {room r room′ row : List ℕ} {rows : List (List ℕ)} {between to current : ℕ}
     → Stores (tokenClasses t) (m .used) room between r
     → Stores (tokenValue kind t) between r to room′
-    → row ≡ rowWords (m .current) kind (m .used) between to time
-    → current ≡ cond (ltb kind 8) (m .count + 1) (m .current)
+    → ((classes value : List ℕ)
+    → between ≡ m .used + length classes
+    → to ≡ between + length value
+    → row ≡ nodeWords (m .used) (nodeBelow (m .current) kind classes value time))
+    → current ≡ cond (ltb (kindWord kind) 8) (m .count + 1) (m .current)
     → Puts t kind time m room rows (record { count = m .count + 1; used = to; current = current }) room′ (set rows (m .count) row)
-puts-node {t} {kind} {time} {m} {rows = rows} a b e f =
+puts-node {t} {kind} {m = m} {rows = rows} a b e f =
     let both = a then b in
-    let last = b .place ∙ ap (λ n. n + length (tokenValue kind t)) (a .place) in
     record {
       count = refl;
-      used = last;
+      used = b .place ∙ ap (λ n. n + length (tokenValue kind t)) (a .place);
       current = f;
       strings = both .holds;
-      row = ap (set rows (m .count)) (e ∙ rw (last, a .place) refl);
+      row = ap (set rows (m .count)) (e (tokenClasses t) (tokenValue kind t) (a .place) (b .place));
     }
 
 -- the words of a place and of a string that stands there
-span-place : (place : ℕ) (x : List ℕ) → spanWords place (place + length x) ≡ placeWords place x
-unfolding spanWords placeWords
+span-place : (place : ℕ) (x : List ℕ) → cond (eqb place (place + length x)) 0 place ∷ cond (eqb place (place + length x)) 0 (place + length x) ∷ [] ≡ placeWords place x
+unfolding placeWords
 span-place place [] = let e : place + 0 ≡ place = omega arith in rw (eq-eqb place (place + 0) (sym e)) refl
 span-place place (b ∷ x) = rw (ne-eqb place (place + suc (length x)) (λ e. absurd (omega arith))) refl
 
-row-is :
-    (place : ℕ) (n : Node)
-    → rowWords (parentWord (n .parent)) (kindWord (n .kind)) place (place + length (n .classes)) (place + length (n .classes) + length (n .value)) (n .time)
-    ≡ nodeWords place n
-unfolding rowWords nodeWords
-row-is place n = rw (span-place place (n .classes), span-place (place + length (n .classes)) (n .value))
+-- the row of a node by the places of its strings
+pub row-is :
+    (parent : ℕ) (kind : NodeKind) (from between to time : ℕ) (classes value : List ℕ)
+    → between ≡ from + length classes
+    → to ≡ between + length value
+    → parent
+    ∷ kindWord kind
+    ∷ cond (eqb from between) 0 from
+    ∷ cond (eqb from between) 0 between
+    ∷ cond (eqb between to) 0 between
+    ∷ cond (eqb between to) 0 to
+    ∷ time
+    ∷ []
+    ≡ nodeWords from (nodeBelow parent kind classes value time)
+unfolding nodeWords
+row-is parent kind from between to time classes value e f =
+    rw (named-word parent, ← (span-place from classes), ← (span-place (from + length classes) value), f, e) refl
 
--- the parent and the kind of a node that has a row, as words
-unfoldable pub parentAt : List Node → ℕ → ℕ
-parentAt [] i = 0
-parentAt (n ∷ ns) zero = parentWord (n .parent)
-parentAt (n ∷ ns) (suc i) = parentAt ns i
+-- the node with an index, where there is one
+abbrev noNode : Node
+noNode = record { parent = none; kind = NodeKind.String; classes = []; value = []; time = 0 }
 
-unfoldable pub kindAt : List Node → ℕ → ℕ
-kindAt [] i = 8
-kindAt (n ∷ ns) zero = kindWord (n .kind)
-kindAt (n ∷ ns) (suc i) = kindAt ns i
-
-parent-row : (place : ℕ) (ns : List Node) (rest : List (List ℕ)) (i : ℕ) → i < length ns → word 0 (getD (nodeRows place ns ++ rest) i []) ≡ parentAt ns i
-unfolding parentAt nodeRows nodeWords
-parent-row place [] rest i h = absurd (omega arith)
-parent-row place (n ∷ ns) rest zero h = refl
-parent-row place (n ∷ ns) rest (suc i) h = parent-row (place + length (n .classes) + length (n .value)) ns rest i (omega arith)
-
-kind-row : (place : ℕ) (ns : List Node) (rest : List (List ℕ)) (i : ℕ) → i < length ns → word 1 (getD (nodeRows place ns ++ rest) i []) ≡ kindAt ns i
-unfolding kindAt nodeRows nodeWords
-kind-row place [] rest i h = absurd (omega arith)
-kind-row place (n ∷ ns) rest zero h = refl
-kind-row place (n ∷ ns) rest (suc i) h = kind-row (place + length (n .classes) + length (n .value)) ns rest i (omega arith)
-
-module _ (n : Node) where
-  parent-before : (ns : List Node) (i : ℕ) → i < length ns → parentAt (ns ++ n ∷ []) i ≡ parentAt ns i
-  unfolding parentAt
-  parent-before [] i h = absurd (omega arith)
-  parent-before (m ∷ ns) zero h = refl
-  parent-before (m ∷ ns) (suc i) h = parent-before ns i (omega arith)
-
-  kind-before : (ns : List Node) (i : ℕ) → i < length ns → kindAt (ns ++ n ∷ []) i ≡ kindAt ns i
-  unfolding kindAt
-  kind-before [] i h = absurd (omega arith)
-  kind-before (m ∷ ns) zero h = refl
-  kind-before (m ∷ ns) (suc i) h = kind-before ns i (omega arith)
-
-  parent-last : (ns : List Node) → parentAt (ns ++ n ∷ []) (length ns) ≡ parentWord (n .parent)
-  unfolding parentAt
-  parent-last [] = refl
-  parent-last (m ∷ ns) = parent-last ns
-
-  kind-last : (ns : List Node) → kindAt (ns ++ n ∷ []) (length ns) ≡ kindWord (n .kind)
-  unfolding kindAt
-  kind-last [] = refl
-  kind-last (m ∷ ns) = kind-last ns
+-- its row says its parent and its kind
+row-at :
+    (place : ℕ) (ns : List Node) (rest : List (List ℕ)) (i : ℕ)
+    → i < length ns
+    → (nodeOfRow [] (getD (nodeRows place ns ++ rest) i []) .parent ≡ getD ns i noNode .parent)
+    × (nodeOfRow [] (getD (nodeRows place ns ++ rest) i []) .kind ≡ getD ns i noNode .kind)
+unfolding nodeRows nodeWords nodeOfRow
+row-at place [] rest i h = absurd (omega arith)
+row-at place (n ∷ ns) rest zero h = (parent-named (n .parent), kind-numbered (n .kind))
+row-at place (n ∷ ns) rest (suc i) h = row-at (place + length (n .classes) + length (n .value)) ns rest i (omega arith)
 
 -- each open node has its row, which names the open node below it as its parent
 pub data Linked (ns : List Node) : List Open → Type 0 where
@@ -111,90 +94,53 @@ pub data Linked (ns : List Node) : List Open → Type 0 where
   linked :
       {o : Open} {path : List Open}
       → o .index < length ns
-      → parentAt ns (o .index) ≡ parentWord (parentOf path)
-      → kindAt ns (o .index) ≡ kindWord (o .kind)
+      → getD ns (o .index) noNode .parent ≡ parentOf path
+      → getD ns (o .index) noNode .kind ≡ o .kind
       → Linked ns path
       → Linked ns (o ∷ path)
 
 linked-more : (ns : List Node) (n : Node) {path : List Open} → Linked ns path → Linked (ns ++ n ∷ []) path
 linked-more ns n at-root = at-root
-linked-more ns n (linked {o = o} h p k l) =
-    linked {o = o} (omega (arith, length-append ns (n ∷ []))) (parent-before n ns (o .index) h ∙ p) (kind-before n ns (o .index) h ∙ k)
-    (linked-more ns n l)
+linked-more ns n (linked {o = o} {path = path} h p k l) =
+    let same = List·getD-append ns (n ∷ []) noNode (o .index) h in
+    linked {o = o} {path = path} (omega (arith, length-append ns (n ∷ []))) (rw same p) (rw same k) (linked-more ns n l)
 
-drop-linked : (ns : List Node) {path : List Open} → Linked ns path → Linked ns (drop 1 path)
-drop-linked ns at-root = at-root
-drop-linked ns (linked h p k l) = l
-
-linked-cond : (t : Bool) (ns : List Node) (a b : List Open) → Linked ns a → Linked ns b → Linked ns (cond t a b)
-linked-cond true ns a b p q = p
-linked-cond false ns a b p q = q
-
-leaving-linked : (o : Option Kind) (ns : List Node) {path : List Open} → Linked ns path → Linked ns (leaving o path)
-unfolding leaving
-leaving-linked o ns at-root = at-root
-leaving-linked o ns (linked {o = p} {path = path} h a k l) =
-    linked-cond (isKind o (p .kind)) ns path _ l
-    (linked-cond (isKind o ruby && isKind (some (p .kind)) rubyText) ns (drop 1 path) (p ∷ path) (drop-linked ns l) (linked h a k l))
+drop-linked : (ns : List Node) (path : List Open) → Linked ns path → Linked ns (drop 1 path)
+drop-linked ns [] at-root = at-root
+drop-linked ns (o ∷ path) (linked h p k l) = l
 
 -- the current node's row
 module _ (ns : List Node) (rest : List (List ℕ)) where
   abbrev rows : List (List ℕ)
   rows = nodeRows 0 ns ++ rest
 
-  length-rows : (place : ℕ) (ms : List Node) → length (nodeRows place ms) ≡ length ms
-  unfolding nodeRows
-  length-rows place [] = refl
-  length-rows place (n ∷ ms) = ap suc (length-rows (place + length (n .classes) + length (n .value)) ms)
-
   has-row : (i : ℕ) → i < length ns → noRow rows (suc i) ≡ false
   unfolding noRow
   has-row i h = rw (ne-eqb (suc i) 0 (λ e. absurd (omega arith))) (le-ltb (length rows) (suc i) (omega (arith, length-append (nodeRows 0 ns) rest, length-rows 0 ns)))
 
   up-is : {path : List Open} → Linked ns path → upIn rows (parentWord (parentOf path)) ≡ parentWord (parentOf (drop 1 path))
-  unfolding upIn parentWord parentOf noRow
+  unfolding upIn nodeNamed parentWord parentOf noRow
   up-is at-root = refl
   up-is (linked {o = o} {path = path} h p k l) =
       let e : suc (o .index) - 1 ≡ o .index = omega arith in
-      rw (has-row (o .index) h, e) (parent-row 0 ns rest (o .index) h ∙ p)
+      rw (has-row (o .index) h, e) (ap parentWord (row-at 0 ns rest (o .index) h .0 ∙ p))
 
-  kind-is : {path : List Open} → Linked ns path → kindIn rows (parentWord (parentOf path)) ≡ wordOf (kindOf path)
-  unfolding kindIn parentWord parentOf kindOf noRow
+  kind-is : {path : List Open} → Linked ns path → kindIn rows (parentWord (parentOf path)) ≡ kindOf path
+  unfolding kindIn nodeNamed parentWord parentOf kindOf noRow
   kind-is at-root = refl
   kind-is (linked {o = o} h p k l) =
       let e : suc (o .index) - 1 ≡ o .index = omega arith in
-      rw (has-row (o .index) h, e) (kind-row 0 ns rest (o .index) h ∙ k)
+      rw (has-row (o .index) h, e) (ap some (row-at 0 ns rest (o .index) h .1 ∙ k))
 
-  -- the current node behind an end tag
-  left-root : (named : ℕ) → leftIn rows 0 named ≡ 0
-  unfolding leftIn upIn noRow
-  left-root named =
-      by-test (eqb named (kindIn rows 0))
-      (λ y. rw y)
-      (λ n. by-test (eqb named 4 && eqb (kindIn rows 0) 5) (λ y. rw (n, y)) (λ m. rw (n, m)))
-
-  left-below :
-      (o : Option Kind) (p : Open) (path : List Open)
-      → kindWord (p .kind) < 8
-      → Linked ns (p ∷ path)
-      → leftIn rows (parentWord (parentOf (p ∷ path))) (wordOf o) ≡ parentWord (parentOf (leaving o (p ∷ path)))
-  unfolding leftIn leaving kindOf
-  left-below o p path h l =
-      let own = up-is l in
-      let next = up-is (drop-linked ns l) in
-      rw (kind-is l, own, next, is-kind o (p .kind) h, is-kind o ruby (omega arith), is-kind (some (p .kind)) rubyText (omega arith))
-      (by-test (eqb (wordOf o) (kindWord (p .kind)))
+  -- the current node after an end tag
+  left-is : (o : Option NodeKind) (path : List Open) → Linked ns path → leftIn rows (parentWord (parentOf path)) o ≡ parentWord (parentOf (leaving o path))
+  unfolding leftIn leftOf leaving kindOf
+  left-is o [] l = rw (kind-is l) refl
+  left-is o (p ∷ path) l =
+      rw (kind-is l, up-is l, up-is (drop-linked ns (p ∷ path) l))
+      (by-test (isKind o (p .kind))
       (λ y. rw y refl)
-      (λ n. by-test (eqb (wordOf o) 4 && eqb (kindWord (p .kind)) 5) (λ y. rw (n, y) refl) (λ m. rw (n, m) refl)))
-
-  left-is :
-      (o : Option Kind) {path : List Open}
-      → Small path
-      → Linked ns path
-      → leftIn rows (parentWord (parentOf path)) (wordOf o) ≡ parentWord (parentOf (leaving o path))
-  unfolding leaving parentWord parentOf
-  left-is o root l = left-root (wordOf o)
-  left-is o (below {o = p} {path = path} h s) l = left-below o p path h l
+      (λ n. by-test (isKind o NodeKind.Ruby && isKind (some (p .kind)) NodeKind.RubyText) (λ y. rw (n, y) refl) (λ m. rw (n, m) refl)))
 
 -- rows and strings of nodes, and of one more
 rows-more : (place : ℕ) (ns : List Node) (n : Node) → nodeRows place (ns ++ n ∷ []) ≡ nodeRows place ns ++ nodeWords (place + length (nodeStrings ns)) n ∷ []
@@ -216,7 +162,7 @@ table-more rows₀ ns n h =
     let a = nodeRows 0 ns in
     let w = nodeWords (length (nodeStrings ns)) n in
     let put : set (a ++ drop i rows₀) i w ≡ a ++ w ∷ drop (i + 1) rows₀ =
-    rw (add-one i, drop-cons rows₀ i [] h) (set-at a (getD rows₀ i []) (drop (suc i) rows₀) w i (length-rows [] [] 0 ns)) in
+    rw (add-one i, drop-cons rows₀ i [] h) (set-at a (getD rows₀ i []) (drop (suc i) rows₀) w i (length-rows 0 ns)) in
     let e : 0 + length (nodeStrings ns) ≡ length (nodeStrings ns) = omega arith in
     put ∙ rw (rows-more 0 ns n, e, length-append ns (n ∷ [])) (sym (append-assoc a (w ∷ []) (drop (i + 1) rows₀)))
 
@@ -239,7 +185,6 @@ pub record Filling (s room₀ : List ℕ) (rows₀ : List (List ℕ)) (at : ℕ)
   pub count : m .count ≡ length done
   pub used : m .used ≡ length (nodeStrings done)
   pub current : m .current ≡ parentWord (parentOf path)
-  pub small : Small path
   pub links : Linked done path
   pub table : rows ≡ nodeRows 0 done ++ drop (length done) rows₀
   pub strings : room ≡ nodeStrings done ++ drop (length (nodeStrings done)) room₀
@@ -257,7 +202,6 @@ module _ (s room₀ : List ℕ) (rows₀ : List (List ℕ)) where
         count = refl;
         used = refl;
         current = refl;
-        small = root;
         links = at-root;
         table = refl;
         strings = refl;
@@ -279,10 +223,10 @@ module _ (s room₀ : List ℕ) (rows₀ : List (List ℕ)) where
 
     pub filling-table : length s ≤ at → rows ≡ placed (nodeRows 0 (nodes s)) rows₀
     unfolding placed
-    filling-table h = let e = nothing-left h in rw (e, length-rows [] [] 0 (f .done)) (f .table)
+    filling-table h = let e = nothing-left h in rw (e, length-rows 0 (f .done)) (f .table)
 
     -- the current node's kind
-    pub filling-kind : kindIn rows (m .current) ≡ wordOf (kindOf (f .path))
+    pub filling-kind : kindIn rows (m .current) ≡ kindOf (f .path)
     filling-kind = rw (f .table, f .current) (kind-is (f .done) (drop (length (f .done)) rows₀) (f .links))
 
     module _ (tok : Token) (next : ℕ) (e : cueTokens (drop at s) ≡ tok ∷ cueTokens (drop next s)) (l : next ≤ length s) where
@@ -310,7 +254,7 @@ module _ (s room₀ : List ℕ) (rows₀ : List (List ℕ)) where
       pub filling-left :
           made (f .path) tok ≡ []
           → behind ≡ leaving (leftKind tok) (f .path)
-          → Filling s room₀ rows₀ next (record { count = m .count; used = m .used; current = leftIn rows (m .current) (wordOf (leftKind tok)) }) room rows
+          → Filling s room₀ rows₀ next (record { count = m .count; used = m .used; current = leftIn rows (m .current) (leftKind tok) }) room rows
       filling-left g p =
           let keep : i + 0 ≡ i = omega arith in
           record {
@@ -320,9 +264,8 @@ module _ (s room₀ : List ℕ) (rows₀ : List (List ℕ)) where
             count = f .count;
             used = f .used;
             current =
-                rw (f .table, f .current) (left-is (f .done) (drop i rows₀) (leftKind tok) (f .small) (f .links));
-            small = leaving-small (leftKind tok) (f .small);
-            links = leaving-linked (leftKind tok) (f .done) (f .links);
+                rw (f .table, f .current) (left-is (f .done) (drop i rows₀) (leftKind tok) (f .path) (f .links));
+            links = leaving-keeps (Linked (f .done)) (drop-linked (f .done)) (leftKind tok) (f .path) (f .links);
             table = f .table;
             strings = f .strings;
             over = still-within;
@@ -330,13 +273,13 @@ module _ (s room₀ : List ℕ) (rows₀ : List (List ℕ)) where
           }
 
       -- a token that gives a node
-      module _ (k : Kind) (time : ℕ)
+      module _ (k : NodeKind) (time : ℕ)
           (g :
           made (f .path) tok
-          ≡ record { parent = parentOf (f .path); kind = k; classes = tokenClasses tok; value = tokenValue (kindWord k) tok; time = time } ∷ [])
+          ≡ record { parent = parentOf (f .path); kind = k; classes = tokenClasses tok; value = tokenValue k tok; time = time } ∷ [])
           (p : behind ≡ cond (ltb (kindWord k) 8) (record { index = i; kind = k } ∷ f .path) (f .path)) where
         abbrev n : Node
-        n = record { parent = parentOf (f .path); kind = k; classes = tokenClasses tok; value = tokenValue (kindWord k) tok; time = time }
+        n = record { parent = parentOf (f .path); kind = k; classes = tokenClasses tok; value = tokenValue k tok; time = time }
 
         abbrev done′ : List Node
         done′ = f .done ++ n ∷ []
@@ -345,7 +288,7 @@ module _ (s room₀ : List ℕ) (rows₀ : List (List ℕ)) where
         path′ = cond (ltb (kindWord k) 8) (record { index = i; kind = k } ∷ f .path) (f .path)
 
         abbrev x : List ℕ
-        x = tokenClasses tok ++ tokenValue (kindWord k) tok
+        x = tokenClasses tok ++ tokenValue k tok
 
         long : length done′ ≡ i + 1
         long = length-append (f .done) (n ∷ [])
@@ -354,10 +297,10 @@ module _ (s room₀ : List ℕ) (rows₀ : List (List ℕ)) where
         unfolding nodeStrings
         strings-are = nodeStrings-append (f .done) (n ∷ []) ∙ rw (append-nil x)
 
-        bytes : length (nodeStrings done′) ≡ length (nodeStrings (f .done)) + (length (tokenClasses tok) + length (tokenValue (kindWord k) tok))
+        bytes : length (nodeStrings done′) ≡ length (nodeStrings (f .done)) + (length (tokenClasses tok) + length (tokenValue k tok))
         bytes =
             ap length strings-are
-            ∙ omega (arith, length-append (nodeStrings (f .done)) x, length-append (tokenClasses tok) (tokenValue (kindWord k) tok))
+            ∙ omega (arith, length-append (nodeStrings (f .done)) x, length-append (tokenClasses tok) (tokenValue k tok))
 
         whole′ : nodes s ≡ done′ ++ nodesFrom path′ (length done′) (cueTokens (drop next s))
         whole′ =
@@ -384,14 +327,14 @@ module _ (s room₀ : List ℕ) (rows₀ : List (List ℕ)) where
               arith,
               more-rows,
               length-append (nodeRows 0 (f .done)) (drop i rows₀),
-              length-rows [] [] 0 (f .done),
+              length-rows 0 (f .done),
               length-drop i rows₀,
             ))
 
         pub count-fits : length (nodes s) ≤ length rows₀ → m .count < length rows
         count-fits h = rw (f .count) (row-fits h)
 
-        module _ (r : Filled) (room′ : List ℕ) (rows′ : List (List ℕ)) (q : Puts tok (kindWord k) time m room rows r room′ rows′)
+        module _ (r : Filled) (room′ : List ℕ) (rows′ : List (List ℕ)) (q : Puts tok k time m room rows r room′ rows′)
             (lr : length (nodes s) ≤ length rows₀) (ls : length (nodeStrings (nodes s)) ≤ length room₀) where
           current′ : r .current ≡ parentWord (parentOf path′)
           unfolding parentWord parentOf
@@ -403,20 +346,15 @@ module _ (s room₀ : List ℕ) (rows₀ : List (List ℕ)) where
 
           links′ : Linked done′ path′
           links′ =
+              let last : getD done′ i noNode ≡ n = getD-append-seam (f .done) n [] noNode in
               by-test (ltb (kindWord k) 8)
               (λ y.
               rw y
-              (linked {o = record { index = i; kind = k }} (omega (arith, long)) (parent-last n (f .done)) (kind-last n (f .done)) (linked-more (f .done) n (f .links))))
+              (linked {o = record { index = i; kind = k }} (omega (arith, long)) (ap (λ m. m .parent) last) (ap (λ m. m .kind) last) (linked-more (f .done) n (f .links))))
               (λ z. rw z (linked-more (f .done) n (f .links)))
 
-          small′ : Small path′
-          small′ =
-              by-test (ltb (kindWord k) 8)
-              (λ y. rw y (below (ltb-true (kindWord k) 8 y) (f .small)))
-              (λ z. rw z (f .small))
-
-          row′ : rowWords (m .current) (kindWord k) (m .used) (m .used + length (tokenClasses tok)) (m .used + length (tokenClasses tok) + length (tokenValue (kindWord k) tok)) time ≡ nodeWords (length (nodeStrings (f .done))) n
-          row′ = rw (f .current, f .used) (row-is (length (nodeStrings (f .done))) n)
+          row′ : nodeWords (m .used) (nodeBelow (m .current) k (tokenClasses tok) (tokenValue k tok) time) ≡ nodeWords (length (nodeStrings (f .done))) n
+          row′ = rw (f .current, f .used, parent-named (parentOf (f .path))) refl
 
           table′ : rows′ ≡ nodeRows 0 done′ ++ drop (length done′) rows₀
           table′ =
@@ -437,7 +375,6 @@ module _ (s room₀ : List ℕ) (rows₀ : List (List ℕ)) where
                 count = q .count ∙ rw (f .count, long);
                 used = omega (arith, q .used, f .used, bytes);
                 current = current′;
-                small = small′;
                 links = links′;
                 table = table′;
                 strings = strings′;

@@ -1,5 +1,14 @@
 // The second pass over a cue text: the nodes' rows and their strings are stored. The current node's parent and kind come from its row, so a
 // node is left by one look at the table.
+use format::kinds::NodeKind;
+use format::rows::NODE_KIND;
+use format::rows::NODE_PARENT;
+use format::rows::NodeRow;
+use nodes::kinds::MaybeKind;
+use nodes::kinds::is_kind;
+use nodes::kinds::kind_numbered;
+use nodes::kinds::kind_word;
+use nodes::kinds::same_kind;
 use nodes::tokens::Made;
 use nodes::tokens::left_kind;
 use nodes::tokens::node_of;
@@ -9,16 +18,17 @@ use tokenizer::Stepped;
 use tokenizer::Token;
 ghost use mathlib.Core.Path.{_≡_};
 ghost use mathlib.Core.Bool.{false, cond};
-ghost use Prim.Native.Nat.{_+_, _≤_, _<_};
+ghost use mathlib.Core.List.{List};
+ghost use Prim.Native.Nat.{ℕ, _+_, _≤_, _<_};
 ghost use lib.Dec.{eqb, ltb};
 ghost use lib.ListN.{length};
 ghost use Rattle.format.specs.Limits.{maxText};
 ghost use Rattle.format.specs.Answers.{placed};
 ghost use Rattle.format.specs.CueText.{cueTokens};
-ghost use Rattle.format.specs.Trees.{anyTimeOver, nodes, nodeStrings, nodeRows};
+ghost use Rattle.format.specs.Trees.{kindWord, anyTimeOver, nodes, nodeStrings, nodeWords, nodeRows};
 ghost use Rattle.tokenizer.specs.Tags.{tokenIs, PartsIn};
-ghost use Rattle.nodes.specs.Tokens.{tokenClasses, madeIs};
-ghost use Rattle.node_rows.specs.Rows.{upIn, kindIn, leftIn, rowWords, Puts, Turned, Fits};
+ghost use Rattle.nodes.specs.Tokens.{kindIs, tokenClasses, madeIs};
+ghost use Rattle.node_rows.specs.Rows.{upIn, kindIn, leftIn, nodeBelow, Puts, Turned, Fits};
 
 // How far the table and the room are filled, and the current node: 0 for the root, else its index and one.
 pub struct Filled {
@@ -28,7 +38,7 @@ pub struct Filled {
 }
 
 // The parent of a node, by its row.
-fn up(rows: &[[u64; 7]], node: usize) -> usize
+fn up(rows: &[NodeRow], node: usize) -> usize
     ensures { λ r. ⌜ r ≡ upIn (now (rows .entry)) node ⌝ }
 {
     if node == 0 {
@@ -38,36 +48,39 @@ fn up(rows: &[[u64; 7]], node: usize) -> usize
         return 0;
     }
     let row = rows[node - 1];
-    row[0] as usize
+    row[NODE_PARENT] as usize
 }
 
 // The kind of a node, by its row.
-fn kind_of(rows: &[[u64; 7]], node: usize) -> u64
-    ensures { λ r. ⌜ r ≡ kindIn (now (rows .entry)) node ⌝ }
+fn kind_of(rows: &[NodeRow], node: usize) -> MaybeKind
+    ensures { λ r. ⌜ kindIs r ≡ kindIn (now (rows .entry)) node ⌝ }
 {
     if node == 0 {
-        return 8;
+        return MaybeKind::None;
     }
     if rows.len() < node {
-        return 8;
+        return MaybeKind::None;
     }
     let row = rows[node - 1];
-    row[1]
+    MaybeKind::Is(kind_numbered(row[NODE_KIND]))
 }
 
-// The current node behind an end tag. `</ruby>` inside a ruby text leaves both.
-fn leave(rows: &[[u64; 7]], node: usize, named: u64) -> usize
-    ensures { λ r. ⌜ r ≡ leftIn (now (rows .entry)) node named ⌝ }
+// The current node after an end tag. `</ruby>` inside a ruby text leaves both.
+fn leave(rows: &[NodeRow], node: usize, named: MaybeKind) -> usize
+    ensures { λ r. ⌜ r ≡ leftIn (now (rows .entry)) node (kindIs named) ⌝ }
 {
-    let kind = kind_of(rows, node);
+    let own = kind_of(rows, node);
+    let MaybeKind::Is(kind) = own else {
+        return node;
+    };
     let parent = up(rows, node);
-    if named == kind {
+    if is_kind(named, kind) {
         return parent;
     }
-    if named != 4 {
+    if !is_kind(named, NodeKind::Ruby) {
         return node;
     }
-    if kind != 5 {
+    if !same_kind(kind, NodeKind::RubyText) {
         return node;
     }
     up(rows, parent)
@@ -83,12 +96,20 @@ fn place(from: usize, to: usize, at: usize) -> u64
     at as u64
 }
 
-fn row_of(parent: usize, kind: u64, from: usize, between: usize, to: usize, time: u64) -> [u64; 7]
-    ensures { λ r. ⌜ r ≡ rowWords parent kind from between to time ⌝ }
+// The row of a node whose classes stand up to the place where its value starts.
+fn row_of(
+    parent: usize,
+    kind: NodeKind,
+    from: usize,
+    between: usize,
+    to: usize,
+    time: u64,
+) -> NodeRow
+    ensures { λ r. ⌜ ((classes value : List ℕ) → between ≡ from + length classes → to ≡ between + length value → r ≡ nodeWords from (nodeBelow parent kind classes value time)) ⌝ }
 {
     [
         parent as u64,
-        kind,
+        kind_word(kind),
         place(from, between, from),
         place(from, between, between),
         place(between, to, between),
@@ -97,11 +118,11 @@ fn row_of(parent: usize, kind: u64, from: usize, between: usize, to: usize, time
     ]
 }
 
-// The current node behind a node that was put.
-fn entered(current: usize, kind: u64, node: usize) -> usize
-    ensures { λ r. ⌜ r ≡ cond (ltb kind 8) node current ⌝ }
+// The current node after a node that was put: the kinds whose word is below 8 have children.
+fn entered(current: usize, kind: NodeKind, node: usize) -> usize
+    ensures { λ r. ⌜ r ≡ cond (ltb (kindWord kind) 8) node current ⌝ }
 {
-    if kind < 8 {
+    if kind_word(kind) < 8 {
         return node;
     }
     current
@@ -111,11 +132,11 @@ fn entered(current: usize, kind: u64, node: usize) -> usize
 fn put_node(
     text: &[u8],
     token: Token,
-    kind: u64,
+    kind: NodeKind,
     time: u64,
     filled: Filled,
     room: &mut [u8],
-    rows: &mut [[u64; 7]],
+    rows: &mut [NodeRow],
 ) -> Filled
     requires { ⌜ (PartsIn (now text) 0 (length (now text)) token) × (length (now text) ≤ maxText) × (filled .used + length (tokenClasses (tokenIs (now text) token)) ≤ maxText) × (filled .count < length (now rows)) ⌝ }
     ensures { λ r. ⌜ Puts (tokenIs (now (text .entry)) token) kind time filled (now (room .entry)) (now (rows .entry)) r (now (room .exit)) (now (rows .exit)) ⌝ }
@@ -133,7 +154,7 @@ fn put_node(
 }
 
 // One token.
-fn turn(text: &[u8], token: Token, filled: Filled, room: &mut [u8], rows: &mut [[u64; 7]]) -> Filled
+fn turn(text: &[u8], token: Token, filled: Filled, room: &mut [u8], rows: &mut [NodeRow]) -> Filled
     requires { ⌜ (PartsIn (now text) 0 (length (now text)) token) × (length (now text) ≤ maxText) × (Fits (madeIs (kindIn (now rows) (filled .current)) (tokenIs (now text) token)) (tokenIs (now text) token) filled (now rows)) ⌝ }
     ensures { λ r. ⌜ Turned (madeIs (kindIn (now (rows .entry)) (filled .current)) (tokenIs (now (text .entry)) token)) (tokenIs (now (text .entry)) token) filled (now (room .entry)) (now (rows .entry)) r (now (room .exit)) (now (rows .exit)) ⌝ }
 {
@@ -150,7 +171,7 @@ fn turn(text: &[u8], token: Token, filled: Filled, room: &mut [u8], rows: &mut [
 }
 
 // Stores the nodes of a text whose times are within their limit, in a room and a table that are long enough.
-pub fn fill(text: &[u8], room: &mut [u8], rows: &mut [[u64; 7]])
+pub fn fill(text: &[u8], room: &mut [u8], rows: &mut [NodeRow])
     requires { ⌜ (length (now text) ≤ maxText) × (anyTimeOver (cueTokens (now text)) ≡ false) × (length (nodeStrings (nodes (now text))) ≤ length (now room)) × (length (nodes (now text)) ≤ length (now rows)) ⌝ }
     ensures { λ _. ⌜ (now (room .exit) ≡ placed (nodeStrings (nodes (now (text .entry)))) (now (room .entry))) × (now (rows .exit) ≡ placed (nodeRows 0 (nodes (now (text .entry)))) (now (rows .entry))) ⌝ }
 {

@@ -1,5 +1,11 @@
 // The first pass over a cue text: how many nodes it has and how long their strings are, or that a time is above its limit. The table of nodes
 // may be too short, so the kinds of the open nodes are kept here, on a stack in words of this pass's own.
+use format::kinds::NodeKind;
+use nodes::kinds::MaybeKind;
+use nodes::kinds::is_kind;
+use nodes::kinds::kind_numbered;
+use nodes::kinds::kind_word;
+use nodes::kinds::same_kind;
 use nodes::tokens::Made;
 use nodes::tokens::left_kind;
 use nodes::tokens::node_of;
@@ -13,10 +19,11 @@ ghost use Prim.Native.Nat.{_+_, _*_, _≤_, _<_};
 ghost use lib.ListN.{length};
 ghost use Rattle.format.specs.Limits.{maxText};
 ghost use Rattle.tokenizer.specs.Tags.{tokenIs, PartsIn};
-ghost use Rattle.nodes.specs.Tokens.{tokenClasses, tokenValue};
+ghost use Rattle.nodes.specs.Tokens.{kindIs, tokenClasses, tokenValue};
 ghost use Rattle.stack.specs.Kinds.{kinds, Holds};
+ghost use Rattle.node_laws.specs.Sizes.{topKind};
 ghost use Rattle.node_sizes.specs.Needs.{NeedIs};
-ghost use Rattle.node_sizes.specs.Turns.{Left, Entered, Ready, TurnIs};
+ghost use Rattle.node_sizes.specs.Turns.{opened, Left, Entered, Ready, TurnIs};
 
 pub enum Need {
     // The hours of a timestamp are above their limit.
@@ -37,38 +44,54 @@ enum Turned {
     On(Measured),
 }
 
-// The open nodes behind a token that names this kind to be left. An empty stack has the top 8, which no token leaves: it stays empty.
-fn leave(path: Stack, named: u64, words: &[u64]) -> Stack
+// The kind of the node that is on top. The words on the stack are below 8, and the top of an empty one is 8.
+fn top_kind(path: Stack, words: &[u64]) -> MaybeKind
     requires { ⌜ Holds path (now words) ⌝ }
-    ensures { λ r. ⌜ Left named path (now (words .entry)) r ⌝ }
+    ensures { λ r. ⌜ kindIs r ≡ topKind (opened path (now (words .entry))) ⌝ }
 {
-    let top = stack::kinds::top(path, words);
-    if named == top {
+    let word = stack::kinds::top(path, words);
+    if 8 <= word {
+        return MaybeKind::None;
+    }
+    MaybeKind::Is(kind_numbered(word))
+}
+
+// The open nodes after a token that names this kind to be left. `</ruby>` inside a ruby text leaves both.
+fn leave(path: Stack, named: MaybeKind, words: &[u64]) -> Stack
+    requires { ⌜ Holds path (now words) ⌝ }
+    ensures { λ r. ⌜ Left (kindIs named) path (now (words .entry)) r ⌝ }
+{
+    let top = top_kind(path, words);
+    let MaybeKind::Is(kind) = top else {
+        return path;
+    };
+    if is_kind(named, kind) {
         return stack::kinds::pop(path, words);
     }
-    if named != 4 {
+    if !is_kind(named, NodeKind::Ruby) {
         return path;
     }
-    if top != 5 {
+    if !same_kind(kind, NodeKind::RubyText) {
         return path;
     }
     let below = stack::kinds::pop(path, words);
     stack::kinds::pop(below, words)
 }
 
-// The open nodes behind a node of this kind; those below 8 have children.
-fn enter(path: Stack, kind: u64, words: &mut [u64]) -> Stack
+// The open nodes after a node of this kind: the kinds whose word is below 8 have children.
+fn enter(path: Stack, kind: NodeKind, words: &mut [u64]) -> Stack
     requires { ⌜ Holds path (now words) × (length (kinds path (now words)) < 21 * length (now words)) ⌝ }
     ensures { λ r. ⌜ Entered kind path (now (words .entry)) r (now (words .exit)) ⌝ }
 {
-    if 8 <= kind {
+    let word = kind_word(kind);
+    if 8 <= word {
         return path;
     }
-    stack::kinds::push(path, kind, words)
+    stack::kinds::push(path, word, words)
 }
 
 // The place behind the strings of a token's node. They are put into a room of one byte, since only the place is asked for.
-fn behind_strings(text: &[u8], token: Token, kind: u64, at: usize) -> usize
+fn behind_strings(text: &[u8], token: Token, kind: NodeKind, at: usize) -> usize
     requires { ⌜ (PartsIn (now text) 0 (length (now text)) token) × (length (now text) ≤ maxText) × (at + length (tokenClasses (tokenIs (now text) token)) ≤ maxText) ⌝ }
     ensures { λ r. ⌜ r ≡ at + length (tokenClasses (tokenIs (now (text .entry)) token)) + length (tokenValue kind (tokenIs (now (text .entry)) token)) ⌝ }
 {
@@ -85,7 +108,7 @@ fn turn(text: &[u8], token: Token, m: Measured, words: &mut [u64]) -> Turned
     let path = m.stack;
     let count = m.count;
     let used = m.used;
-    let made = node_of(text, token, stack::kinds::top(path, words));
+    let made = node_of(text, token, top_kind(path, words));
     match made {
         Made::None => {
             let named = left_kind(text, token);

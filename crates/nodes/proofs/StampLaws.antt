@@ -11,6 +11,7 @@ use Rattle.format.specs.Texts.{isEmpty, run}
 use Rattle.format.specs.Times.{Result, failed, got, Time, overHours, onGot}
 use Rattle.format.specs.Times as Times
 use Rattle.format.specs.Trees.{nothingBehind, tagTime}
+use Rattle.format.specs.declared.kinds.NodeKind.the-variants as NodeKind
 use Rattle.laws.proofs.Tests.{by-test}
 use Rattle.values.specs.Times.{stampIs}
 use Rattle.values.specs.declared.times.Stamp.{Stamp}
@@ -23,7 +24,7 @@ use Rattle.nodes.specs.declared.tokens.Made.the-variants as Made
 abbrev told : ℕ → Stamp → Made
 told n Stamp.Bad = Made.None
 told n (Stamp.Over next) = cond (ltb next n) Made.None Made.Over
-told n (Stamp.At ms next) = cond (ltb next n) Made.None (Made.Node 9 ms)
+told n (Stamp.At ms next) = cond (ltb next n) Made.None (Made.Node NodeKind.Timestamp ms)
 
 told-is : (n : ℕ) (r : Result Time) → (n ≡ 0 → r ≡ failed) → told n (stampIs n r) ≡ stampMade (nothingBehind r)
 unfolding stampMade nothingBehind
@@ -60,5 +61,5 @@ module _ (s : List ℕ) (r : Stamp) (read : r ≡ stampIs (length s) (Times.time
     pub stamp-more : (ms : ℕ) → r ≡ Stamp.At ms next → next < length s → Made.None ≡ stampMade (tagTime s)
     stamp-more ms e h = (rw (lt-ltb next (length s) h) at (sym (ap (told (length s)) e))) ∙ made
 
-    pub stamp-whole : (ms : ℕ) → r ≡ Stamp.At ms next → length s ≤ next → Made.Node 9 ms ≡ stampMade (tagTime s)
+    pub stamp-whole : (ms : ℕ) → r ≡ Stamp.At ms next → length s ≤ next → Made.Node NodeKind.Timestamp ms ≡ stampMade (tagTime s)
     stamp-whole ms e h = (rw (le-ltb next (length s) h) at (sym (ap (told (length s)) e))) ∙ made

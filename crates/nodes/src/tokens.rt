@@ -1,4 +1,8 @@
 // The node that a token gives, its strings put into a room, and the kind of node that an end tag leaves.
+use super::kinds::MaybeKind;
+use super::kinds::is_kind;
+use super::kinds::same_kind;
+use format::kinds::NodeKind;
 use format::settings::Span;
 use strings::puts::put_collapsed;
 use strings::puts::put_decoded;
@@ -7,89 +11,88 @@ use values::bytes::same_bytes;
 use values::times::Stamp;
 ghost use mathlib.Core.Path.{_≡_};
 ghost use Prim.Native.Nat.{_≤_};
-ghost use mathlib.Core.Bool.{cond, _||_};
-ghost use mathlib.Core.List.{[]};
-ghost use lib.Dec.{eqb};
+ghost use mathlib.Core.Bool.{_||_};
+ghost use mathlib.Core.Option.{some};
 ghost use lib.ListN.{length};
 ghost use Rattle.format.specs.Texts.{bytesAt};
 ghost use Rattle.format.specs.Bytes.{white, space};
 ghost use Rattle.format.specs.CueText.{collapsed};
 ghost use Rattle.format.specs.Limits.{maxText};
-ghost use Rattle.format.specs.Trees.{kindNamed, tagTime};
+ghost use Rattle.format.specs.Trees.{kindNamed, isKind, attached, tagTime, valueFor};
+ghost use Rattle.format.specs.declared.kinds.NodeKind.the-variants as Kind;
 ghost use Rattle.tokenizer.specs.Tags.{tokenIs, PartsIn};
 ghost use Rattle.strings.specs.Stores.{Stores};
-ghost use Rattle.nodes.specs.Tokens.{wordOf, attachedWord, elementMade, stampMade, madeIs, tokenClasses, tokenValue, leftKind};
+ghost use Rattle.nodes.specs.Tokens.{kindIs, attachedKind, elementMade, stampMade, madeIs, tokenClasses, tokenValue, leftKind};
 
 pub enum Made {
     None,
     // A timestamp whose hours are above their limit.
     Over,
     // A node of this kind, and a timestamp's milliseconds.
-    Node { kind: u64, time: u64 },
+    Node { kind: NodeKind, time: u64 },
 }
 
-// The kind that a tag's name names; 8 where it names none.
-fn kind_named(name: &[u8]) -> u64
-    ensures { λ r. ⌜ r ≡ wordOf (kindNamed (now (name .entry))) ⌝ }
+// The kind that a tag's name names.
+fn kind_named(name: &[u8]) -> MaybeKind
+    ensures { λ r. ⌜ kindIs r ≡ kindNamed (now (name .entry)) ⌝ }
 {
     if same_bytes(name, b"c") {
-        return 0;
+        return MaybeKind::Is(NodeKind::Class);
     }
     if same_bytes(name, b"i") {
-        return 1;
+        return MaybeKind::Is(NodeKind::Italic);
     }
     if same_bytes(name, b"b") {
-        return 2;
+        return MaybeKind::Is(NodeKind::Bold);
     }
     if same_bytes(name, b"u") {
-        return 3;
+        return MaybeKind::Is(NodeKind::Underline);
     }
     if same_bytes(name, b"ruby") {
-        return 4;
+        return MaybeKind::Is(NodeKind::Ruby);
     }
     if same_bytes(name, b"rt") {
-        return 5;
+        return MaybeKind::Is(NodeKind::RubyText);
     }
     if same_bytes(name, b"v") {
-        return 6;
+        return MaybeKind::Is(NodeKind::Voice);
     }
     if same_bytes(name, b"lang") {
-        return 7;
+        return MaybeKind::Is(NodeKind::Language);
     }
-    8
+    MaybeKind::None
 }
 
 // The kind that the part of a text names.
-fn named_at(text: &[u8], from: usize, to: usize) -> u64
+fn named_at(text: &[u8], from: usize, to: usize) -> MaybeKind
     requires { ⌜ (from ≤ to) × (to ≤ length (now text)) ⌝ }
-    ensures { λ r. ⌜ r ≡ wordOf (kindNamed (bytesAt (now (text .entry)) from to)) ⌝ }
+    ensures { λ r. ⌜ kindIs r ≡ kindNamed (bytesAt (now (text .entry)) from to) ⌝ }
 {
     kind_named(&text[from..to])
 }
 
 // Ruby text opens only directly inside ruby.
-fn attach(current: u64, named: u64) -> u64
-    ensures { λ r. ⌜ r ≡ attachedWord current named ⌝ }
+fn attach(current: MaybeKind, named: MaybeKind) -> MaybeKind
+    ensures { λ r. ⌜ kindIs r ≡ attachedKind (kindIs current) (kindIs named) ⌝ }
 {
-    if named != 5 {
+    if !is_kind(named, NodeKind::RubyText) {
         return named;
     }
-    if current == 4 {
-        return named;
+    if !is_kind(current, NodeKind::Ruby) {
+        return MaybeKind::None;
     }
-    8
+    named
 }
 
 // The node of a start tag.
-fn element(text: &[u8], from: usize, to: usize, current: u64) -> Made
+fn element(text: &[u8], from: usize, to: usize, current: MaybeKind) -> Made
     requires { ⌜ (from ≤ to) × (to ≤ length (now text)) ⌝ }
-    ensures { λ r. ⌜ r ≡ elementMade (attachedWord current (wordOf (kindNamed (bytesAt (now (text .entry)) from to)))) ⌝ }
+    ensures { λ r. ⌜ r ≡ elementMade (attached (kindIs current) (bytesAt (now (text .entry)) from to)) ⌝ }
 {
-    let kind = attach(current, named_at(text, from, to));
-    if kind == 8 {
-        return Made::None;
+    match attach(current, named_at(text, from, to)) {
+        MaybeKind::None => Made::None,
+        MaybeKind::Is(kind) => Made::Node { kind, time: 0 },
     }
-    Made::Node { kind, time: 0 }
 }
 
 // The node of a timestamp tag: a time and nothing behind it.
@@ -109,7 +112,10 @@ fn stamp(s: &[u8]) -> Made
             if end < s.len() {
                 Made::None
             } else {
-                Made::Node { kind: 9, time: ms }
+                Made::Node {
+                    kind: NodeKind::Timestamp,
+                    time: ms,
+                }
             }
         }
     }
@@ -123,12 +129,15 @@ fn stamp_at(text: &[u8], from: usize, to: usize) -> Made
 }
 
 // The node that a token gives below a current node of this kind.
-pub fn node_of(text: &[u8], token: Token, current: u64) -> Made
+pub fn node_of(text: &[u8], token: Token, current: MaybeKind) -> Made
     requires { ⌜ PartsIn (now text) 0 (length (now text)) token ⌝ }
-    ensures { λ r. ⌜ r ≡ madeIs current (tokenIs (now (text .entry)) token) ⌝ }
+    ensures { λ r. ⌜ r ≡ madeIs (kindIs current) (tokenIs (now (text .entry)) token) ⌝ }
 {
     match token {
-        Token::String(_) => Made::Node { kind: 8, time: 0 },
+        Token::String(_) => Made::Node {
+            kind: NodeKind::String,
+            time: 0,
+        },
         Token::Start {
             name,
             classes: _,
@@ -157,16 +166,22 @@ pub fn put_classes(text: &[u8], token: Token, room: &mut [u8], at: usize) -> usi
 }
 
 // Is the annotation of a node of this kind its value.
-fn has_value(kind: u64) -> bool
-    ensures { λ r. ⌜ r ≡ (eqb kind 6 || eqb kind 7) ⌝ }
+fn has_value(kind: NodeKind) -> bool
+    ensures { λ r. ⌜ r ≡ (isKind (some kind) Kind.Voice || isKind (some kind) Kind.Language) ⌝ }
 {
-    kind == 6 || kind == 7
+    same_kind(kind, NodeKind::Voice) || same_kind(kind, NodeKind::Language)
 }
 
 // The annotation, of a voice or a language alone.
-fn put_annotation(text: &[u8], annotation: Span, kind: u64, room: &mut [u8], at: usize) -> usize
+fn put_annotation(
+    text: &[u8],
+    annotation: Span,
+    kind: NodeKind,
+    room: &mut [u8],
+    at: usize,
+) -> usize
     requires { ⌜ (annotation .from ≤ annotation .to) × (annotation .to ≤ length (now text)) × (length (now text) ≤ maxText) × (at ≤ maxText) ⌝ }
-    ensures { λ r. ⌜ Stores (cond (eqb kind 6 || eqb kind 7) (collapsed white space (bytesAt (now (text .entry)) (annotation .from) (annotation .to))) []) at (now (room .entry)) r (now (room .exit)) ⌝ }
+    ensures { λ r. ⌜ Stores (valueFor kind (collapsed white space (bytesAt (now (text .entry)) (annotation .from) (annotation .to)))) at (now (room .entry)) r (now (room .exit)) ⌝ }
 {
     if !has_value(kind) {
         return at;
@@ -175,7 +190,7 @@ fn put_annotation(text: &[u8], annotation: Span, kind: u64, room: &mut [u8], at:
 }
 
 // The value of a token's node, whose kind is this: text, or the annotation of a voice or a language.
-pub fn put_value(text: &[u8], token: Token, kind: u64, room: &mut [u8], at: usize) -> usize
+pub fn put_value(text: &[u8], token: Token, kind: NodeKind, room: &mut [u8], at: usize) -> usize
     requires { ⌜ (PartsIn (now text) 0 (length (now text)) token) × (length (now text) ≤ maxText) × (at ≤ maxText) ⌝ }
     ensures { λ r. ⌜ Stores (tokenValue kind (tokenIs (now (text .entry)) token)) at (now (room .entry)) r (now (room .exit)) ⌝ }
 {
@@ -191,19 +206,19 @@ pub fn put_value(text: &[u8], token: Token, kind: u64, room: &mut [u8], at: usiz
     }
 }
 
-// The kind of node that a token leaves; 8 where it leaves none.
-pub fn left_kind(text: &[u8], token: Token) -> u64
+// The kind of node that a token leaves.
+pub fn left_kind(text: &[u8], token: Token) -> MaybeKind
     requires { ⌜ PartsIn (now text) 0 (length (now text)) token ⌝ }
-    ensures { λ r. ⌜ r ≡ wordOf (leftKind (tokenIs (now (text .entry)) token)) ⌝ }
+    ensures { λ r. ⌜ kindIs r ≡ leftKind (tokenIs (now (text .entry)) token) ⌝ }
 {
     match token {
-        Token::String(_) => 8,
+        Token::String(_) => MaybeKind::None,
         Token::Start {
             name: _,
             classes: _,
             annotation: _,
-        } => 8,
+        } => MaybeKind::None,
         Token::End(p) => named_at(text, p.from, p.to),
-        Token::Timestamp(_) => 8,
+        Token::Timestamp(_) => MaybeKind::None,
     }
 }

@@ -50,7 +50,7 @@ fn mend(file: i32) {
 fn outline(file: i32) {
     let mut raw = [0u8; 16384];
     let mut room = [0u8; 16384];
-    let mut nodes = [[0u64; 7]; 4096];
+    let mut nodes = [[0u64; NODE_WORDS]; 4096];
     listing::nodes::show_file(file, &mut raw, &mut room, &mut nodes);
 }
 

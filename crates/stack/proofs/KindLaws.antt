@@ -4,9 +4,12 @@ use mathlib.Core.Path.{_≡_, refl, ap, _∙_}
 use mathlib.Core.List.{List, [], _∷_, _++_}
 use native.Mathlib.Omega.{arith}
 use native.Mathlib.Nat.{pow-suc}
+use lib.Dec.{eqb}
 use lib.ListN.{length, getD, set, length-append}
 use lib.Seq.{getD-set-other}
-use Rattle.stack.specs.Kinds.{digits, unload, kinds, Holds}
+use borrow.Author.Tests.{eqb-true, eqb-false}
+use Rattle.laws.proofs.Tests.{by-test}
+use Rattle.stack.specs.Kinds.{digits, unload, kinds, topOf, Holds}
 use Rattle.stack.specs.declared.kinds.Stack.{Stack}
 
 pub length-digits : (n w : ℕ) → length (digits n w) ≡ n
@@ -64,3 +67,11 @@ module _ (s : Stack) (words : List ℕ) where
   kinds-some h =
       let e : s .held ≡ suc (s .held - 1) = omega arith in
       ap (λ n. digits n (s .top) ++ unload (s .full) words) e
+
+  -- a kind is below 8, so that a top of 8 says that there is none
+  pub kinds-top : Holds s words → 8 ≤ topOf (kinds s words) → kinds s words ≡ []
+  unfolding topOf
+  kinds-top h l =
+      by-test (eqb (s .held) 0)
+      (λ y. kinds-none h (eqb-true (s .held) 0 y))
+      (λ n. let k = eqb-false (s .held) 0 n in absurd (omega (arith, rw (kinds-some (omega arith)) at l)))

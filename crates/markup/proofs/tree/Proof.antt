@@ -4,7 +4,7 @@ use lib.ListN.{length}
 use Rattle.format.specs.Converting.{plainnessIs}
 use Rattle.format.specs.Trees.{treeIs}
 use Rattle.format.specs.declared.Tree.the-variants as Tree
-use Rattle.markup.proofs.AnswerLaws.{refuses, same-answer, long-answer, not-plain-answer, plain-answer, all-three, plain-told, not-plain-told}
+use Rattle.markup.proofs.AnswerLaws.{refuses, same-answer, long-answer, not-plain-answer, plain-answer, all-four, plain-told, not-plain-told}
 use borrow.Author.Needs.{needs}
 use Rattle.markup.proofs.tree.Statement.{statement}
 use Rattle.markup.proofs.tree.Tie as tie
@@ -16,7 +16,7 @@ returns c =
     let s = at .args .text .now in
     let room = length (at .args .room .now) in
     let table = length (at .args .nodes .now) in
-    all-three {r = Tree.TextTooLong} (refuses refl (long-answer s room table (c .if1 .taken)))
+    all-four {r = Tree.TextTooLong} (refuses refl (long-answer s room table (c .if1 .taken)))
 
 first-not-plain-requires : tie.Need-first-not-plain-requires
 first-not-plain-requires c κs = search needs
@@ -45,7 +45,7 @@ returns-2 c =
     let table = length (at .args .nodes .now) in
     let short = c .before .before .before .before .before .before .before .before .before .if1 .left in
     let plain = plain-told s (rw (c .before .before .before .before .before .before .enum-told .given .1) at (c .before .before .before .before .before .before .before .before .first-not-plain .ensures)) in
-    all-three (same-answer (plain-answer s room table short plain) (c .before .before .before .read-plain .ensures))
+    all-four (same-answer (plain-answer s room table short plain) (c .before .before .before .read-plain .ensures))
 
 returns-3 : tie.Need-returns-3
 unfolding plainnessIs treeIs
@@ -57,7 +57,7 @@ returns-3 c =
     let i = c .before .i .given .0 .0 in
     let told = not-plain-told s i (rw (c .before .i .given .1) at (c .before .before .before .first-not-plain .ensures)) in
     let is = rw (sym (told .1)) at (not-plain-answer s room table (c .before .before .before .before .if1 .left) (told .0)) in
-    all-three {r = Tree.TextNotPlainAt i} (refuses refl is)
+    all-four {r = Tree.TextNotPlainAt i} (refuses refl is)
 
 pub tree-spec : {M : Type 1} → statement M
 tree-spec =

@@ -1,4 +1,4 @@
--- `markup::filling::fill` meets its contract.
+-- `node_rows::filling::fill` meets its contract.
 use Rattle.tokenizer.specs.Tags.{tokenIs}
 use Rattle.tokenizer.proofs.Spans.{wider}
 use Prim.Native.Nat.{_-_}

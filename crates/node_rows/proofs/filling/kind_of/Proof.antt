@@ -1,8 +1,9 @@
--- `markup::filling::kind_of` meets its contract.
+-- `node_rows::filling::kind_of` meets its contract.
 use mathlib.Core.Path.{refl}
 use lib.ListN.{length}
 use borrow.Author.Tests.{eq-eqb, ne-eqb, lt-ltb, le-ltb}
-use Rattle.node_rows.specs.Rows.{noRow, kindIn}
+use Rattle.format.specs.Trees.{nodeOfRow}
+use Rattle.node_rows.specs.Rows.{noRow, nodeNamed, kindIn}
 use borrow.Author.Needs.{needs}
 use Rattle.node_rows.proofs.filling.kind_of.Statement.{statement}
 use Rattle.node_rows.proofs.filling.kind_of.Tie as tie
@@ -26,14 +27,21 @@ mul-row c = search needs
 shared-slice-copy-out-row : tie.Need-shared-slice-copy-out-row
 shared-slice-copy-out-row c = search needs
 
-array-read-result : tie.Need-array-read-result
-array-read-result c = search needs
+array-read-kind-numbered : tie.Need-array-read-kind-numbered
+array-read-kind-numbered c = search needs
+
+kind-numbered-requires : tie.Need-kind-numbered-requires
+kind-numbered-requires c κs = search needs
 
 returns-3 : tie.Need-returns-3
-unfolding kindIn noRow
+unfolding kindIn noRow nodeNamed nodeOfRow
 returns-3 c =
-    let at = c .before .before .before .args in
-    rw (ne-eqb (at .node) 0 (c .before .before .if1 .left), le-ltb (length (at .rows .now)) (at .node) (c .before .if2 .left)) refl
+    let at = c .before .before .before .before .args in
+    rw (
+      ne-eqb (at .node) 0 (c .before .before .before .if1 .left),
+      le-ltb (length (at .rows .now)) (at .node) (c .before .before .if2 .left),
+      c .kind-numbered .ensures,
+    ) refl
 
 pub kind-of-spec : {M : Type 1} → statement M
 kind-of-spec =
@@ -44,5 +52,6 @@ kind-of-spec =
     sub-row
     mul-row
     shared-slice-copy-out-row
-    array-read-result
+    array-read-kind-numbered
+    kind-numbered-requires
     returns-3)

@@ -1,4 +1,4 @@
--- `markup::filling::place` meets its contract.
+-- `node_rows::filling::place` meets its contract.
 use borrow.Author.Tests.{eq-eqb, ne-eqb}
 use Rattle.node_rows.proofs.filling.place.Statement.{statement}
 use Rattle.node_rows.proofs.filling.place.Tie as tie

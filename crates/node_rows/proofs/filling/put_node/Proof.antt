@@ -1,4 +1,4 @@
--- `markup::filling::put_node` meets its contract.
+-- `node_rows::filling::put_node` meets its contract.
 use Rattle.node_rows.proofs.FillLaws.{puts-node}
 use borrow.Author.Needs.{needs}
 use Rattle.node_rows.proofs.filling.put_node.Statement.{statement}

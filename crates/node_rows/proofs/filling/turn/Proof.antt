@@ -1,4 +1,4 @@
--- `markup::filling::turn` meets its contract.
+-- `node_rows::filling::turn` meets its contract.
 use Prim.Native.Nat.{ℕ}
 use Rattle.node_rows.specs.Rows.{leftIn}
 use Rattle.node_rows.specs.declared.filling.Filled.{Filled}

@@ -1,8 +1,10 @@
--- `markup::filling::up` meets its contract.
+-- `node_rows::filling::up` meets its contract.
 use mathlib.Core.Path.{refl}
 use lib.ListN.{length}
 use borrow.Author.Tests.{eq-eqb, ne-eqb, lt-ltb, le-ltb}
-use Rattle.node_rows.specs.Rows.{noRow, upIn}
+use Rattle.format.specs.Trees.{nodeOfRow}
+use Rattle.node_laws.proofs.RowLaws.{named-word}
+use Rattle.node_rows.specs.Rows.{noRow, nodeNamed, upIn}
 use borrow.Author.Needs.{needs}
 use Rattle.node_rows.proofs.filling.up.Statement.{statement}
 use Rattle.node_rows.proofs.filling.up.Tie as tie
@@ -30,10 +32,14 @@ array-read-result : tie.Need-array-read-result
 array-read-result c = search needs
 
 returns-3 : tie.Need-returns-3
-unfolding upIn noRow
+unfolding upIn noRow nodeNamed nodeOfRow
 returns-3 c =
     let at = c .before .before .before .args in
-    rw (ne-eqb (at .node) 0 (c .before .before .if1 .left), le-ltb (length (at .rows .now)) (at .node) (c .before .if2 .left)) refl
+    rw (
+      ne-eqb (at .node) 0 (c .before .before .if1 .left),
+      le-ltb (length (at .rows .now)) (at .node) (c .before .if2 .left),
+      named-word,
+    ) refl
 
 pub up-spec : {M : Type 1} → statement M
 up-spec =

@@ -1,4 +1,4 @@
--- `markup::measuring::measure` meets its contract.
+-- `node_sizes::measuring::measure` meets its contract.
 use Prim.Native.Nat.{ℕ, _-_}
 use mathlib.Core.Path.{_∙_}
 use mathlib.Core.List.{List}

@@ -1,4 +1,4 @@
--- `markup::measuring::measure_long` meets its contract. The words are too many to be written out one by one, so each fact cites their count.
+-- `node_sizes::measuring::measure_long` meets its contract. The words are too many to be written out one by one, so each fact cites their count.
 use Prim.Native.Nat.{ℕ, _*_, _≤_}
 use mathlib.Core.Path.{_≡_, sym}
 use native.Mathlib.Omega.{arith}

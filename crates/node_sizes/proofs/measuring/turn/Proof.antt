@@ -1,4 +1,4 @@
--- `markup::measuring::turn` meets its contract.
+-- `node_sizes::measuring::turn` meets its contract.
 use Prim.Native.Nat.{ℕ}
 use mathlib.Core.Path.{_≡_, sym, ap, _∙_}
 use mathlib.Core.List.{List}
@@ -13,8 +13,8 @@ use borrow.Author.Needs.{needs}
 use Rattle.node_sizes.proofs.measuring.turn.Statement.{statement}
 use Rattle.node_sizes.proofs.measuring.turn.Tie as tie
 
-top-requires : tie.Need-top-requires
-top-requires c κs = search needs
+top-kind-requires : tie.Need-top-kind-requires
+top-kind-requires c κs = search needs
 
 node-of-requires : tie.Need-node-of-requires
 node-of-requires c κs = search needs
@@ -37,7 +37,7 @@ module _ (c : tie.After-node-of) where
   m = at .args .m
 
   made : madeBelow s token m words ≡ c .node-of .result
-  made = ap (λ k. madeIs k (tokenIs s token)) (sym (c .before .top .ensures)) ∙ sym (c .node-of .ensures)
+  made = ap (λ k. madeIs k (tokenIs s token)) (sym (c .before .top-kind .ensures)) ∙ sym (c .node-of .ensures)
 
 enum-told : tie.Need-enum-told
 enum-told c = search needs
@@ -101,7 +101,7 @@ pub turn-spec : {M : Type 1} → statement M
 turn-spec =
     tie.close
     (tie.spec
-    top-requires
+    top-kind-requires
     node-of-requires
     enum-told
     left-kind-requires

@@ -1,6 +1,7 @@
 -- `nodes::tokens::put_annotation` meets its contract.
 use mathlib.Core.Path.{sym, _∙_}
 use borrow.Author.Tests.{not-true, not-false}
+use Rattle.format.specs.Trees.{valueFor}
 use Rattle.strings.proofs.StoreLaws.{stores-none}
 use borrow.Author.Needs.{needs}
 use Rattle.nodes.proofs.tokens.put_annotation.Statement.{statement}
@@ -10,6 +11,7 @@ has-value-requires : tie.Need-has-value-requires
 has-value-requires c κs = search needs
 
 returns : tie.Need-returns
+unfolding valueFor
 returns c =
     let at = c .before .before .before .before in
     let no = sym (c .before .has-value .ensures) ∙ not-true (c .before .has-value .result) (c .if1 .taken) in
@@ -22,6 +24,7 @@ same-length : tie.Need-same-length
 same-length c = search needs
 
 returns-2 : tie.Need-returns-2
+unfolding valueFor
 returns-2 c =
     let has = c .before .before .before .before .before in
     let yes = sym (has .has-value .ensures) ∙ not-false (has .has-value .result) (c .before .before .before .before .if1 .left) in
