@@ -11,7 +11,7 @@ use Rattle.format.specs.Texts.{Part, nowhere}
 use Rattle.format.specs.RegionSettings.{regionSettings, regionIs}
 use Rattle.format.specs.TimingLines.{Timing, timingLine}
 use Rattle.format.specs.Lines.{split}
-use Rattle.format.specs.Blocks.{between, blocksFrom, bytesOf}
+use Rattle.format.specs.Blocks.{Line, between, blocksFrom, bytesOf}
 use Rattle.format.specs.CueSettings.{spanIs, noSpan, settingsIs}
 use Rattle.format.specs.Lists.{Cue, Item, nothing, cue, style, region, regionOf, isWord, meaning}
 use Rattle.format.specs.Replacing.{firstNumber}
@@ -20,7 +20,7 @@ use Rattle.values.specs.Tokens.{spanTo}
 use Rattle.timing.specs.declared.timing_line.TimingLine.{TimingLine}
 use Rattle.timing.specs.declared.timing_line.TimingLine.the-variants as TimingLine
 use Rattle.regions.specs.declared.RegionTaken.{RegionTaken}
-use Rattle.blocks.specs.Collecting.{linesFrom}
+use Rattle.blocks.specs.Collecting.{lineEnds, linesFrom}
 use Rattle.blocks.specs.declared.collecting.Stop.{Stop}
 use Rattle.blocks.specs.declared.Next.{Next}
 use Rattle.blocks.specs.declared.Next.the-variants as Next
@@ -65,10 +65,10 @@ meaningAt seen s from st =
 
 -- a block of the text that begins at a place, and those behind it
 pub record BlockAt (s : List ℕ) (from : ℕ) (st : Stop) : Type 0 where
-  pub lines : List Part
+  pub lines : List Line
   pub divides : blocksFrom between (linesFrom s from) ≡ lines ∷ blocksFrom between (linesFrom s (st .at))
   pub meant : (seen : Bool) → meaning seen lines ≡ meaningAt seen s from st
-  pub begins : firstNumber lines ≡ from
+  pub begins : firstNumber lines ≡ lineEnds (take from s)
   pub covers : split (part s from (st .to) .bytes) ≡ bytesOf lines
   pub starts : from < st .head .first
   pub first-end : st .head .first ≤ st .head .end

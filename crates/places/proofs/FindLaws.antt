@@ -1,46 +1,35 @@
 -- Laws that this crate's proofs cite.
 use Prim.Native.Nat.{ℕ, suc, _+_, _-_, _≤_, _<_}
 use mathlib.Core.Path.{_≡_, refl, sym, ap, _∙_}
-use mathlib.Core.Bool.{Bool, true, false, cond, not, _||_}
-use mathlib.Core.List.{List, [], _∷_, _++_, map, map-map, map-append, append-assoc}
+use mathlib.Core.Bool.{Bool, true, false, cond, _||_}
+use mathlib.Core.List.{List, [], _∷_, _++_}
 use mathlib.Core.Option.{Option, none, some}
 use native.Mathlib.Omega.{arith}
 use lib.Dec.{eqb, ltb}
-use lib.ListN.{length, getD, take, drop, length-append, length-drop, length-map, List·getD-map}
-use lib.Seq.{take-append-seam, take-add, getD-drop, drop-drop}
-use borrow.Author.Tests.{lt-ltb, not-true}
+use lib.ListN.{length, getD, take, drop, length-append, length-drop}
+use lib.Seq.{take-add, getD-drop, drop-drop}
+use borrow.Author.Tests.{lt-ltb}
 use Rattle.format.specs.Bytes.{lf}
-use Rattle.format.specs.Texts.{Part, same}
-use Rattle.format.specs.Lines.{split, before, onFirst, join, endedLines}
+use Rattle.format.specs.Texts.{same}
+use Rattle.format.specs.Lines.{split, before, onFirst}
 use Rattle.format.specs.RegionSettings.{laterOr, lastNamed}
-use Rattle.format.specs.Blocks.{linesAt, behindSignature, blocks}
+use Rattle.format.specs.Blocks.{Line, blocks}
 use Rattle.format.specs.Lists.{Item, nothing, cue, style, region, meaning, isCue, itemsFrom, items, Lists, into, listed, lists, itemOver, anyOver}
 use Rattle.format.specs.Rows.{ids}
-use Rattle.format.specs.Replacing.{numbered, blockOfCue, cueBlocksFrom, cueBlocks, firstNumber, firstLine, lastLine, isThere, regionNames}
-use Rattle.laws.proofs.Tests.{by-test, and-left, and-right, or-true, or-false, or-first, or-second, absent}
-use Rattle.laws.proofs.Lines.{unbroken, splits}
-use Rattle.laws.proofs.Contents.{bare, isCue-unplaced}
+use Rattle.format.specs.Replacing.{blockOfCue, cueBlocksFrom, cueBlocks, firstNumber, firstLine, lastLine, isThere, regionNames}
+use Rattle.laws.proofs.Tests.{by-test, or-true, or-false, or-first, or-second}
+use Rattle.laws.proofs.Lines.{splits}
 use Rattle.laws.proofs.Standing.{All, ItemStands, items-stand, blocks-follow}
-use Rattle.replaced.proofs.Places.{moved, signature-moved}
 use Rattle.replaced.proofs.CueBlocks.{cues-into, length-bytes}
 use Rattle.blocks.specs.declared.collecting.Stop.{Stop}
 use Rattle.blocks.specs.Items.{meaningAt, BlockAt, NextAt, itemIs}
 use Rattle.reader.proofs.CountLaws.{fresh, items-next}
 use Rattle.reader.proofs.FillLaws.{part-back}
-use Rattle.places.specs.Places.{lineEnds, OwnLines, cueItem, namedItem}
+use Rattle.blocks.specs.Collecting.{lineEnds}
+use Rattle.blocks.proofs.LineLaws.{ends-append}
+use Rattle.places.specs.Places.{OwnLines, cueItem, namedItem}
 
--- how many LF texts have
-ends-append : (x y : List ℕ) → lineEnds (x ++ y) ≡ lineEnds x + lineEnds y
-unfolding lineEnds
-ends-append [] y = omega arith
-ends-append (b ∷ x) y = omega (arith, ends-append x y)
-
-ends-none : (l : List ℕ) → absent lf l ≡ true → lineEnds l ≡ 0
-unfolding lineEnds absent
-ends-none [] a = refl
-ends-none (b ∷ l) a =
-    rw (not-true (eqb b lf) (and-left (not (eqb b lf)) (absent lf l) a)) (omega (arith, ends-none l (and-right (not (eqb b lf)) (absent lf l) a)))
-
+-- a text has one line more than LF
 ends-split : (x : List ℕ) → length (split x) ≡ suc (lineEnds x)
 unfolding lineEnds split before onFirst
 ends-split [] = refl
@@ -51,74 +40,14 @@ ends-split (b ∷ x) =
     (λ y. rw y (omega arith))
     (λ z. rw (z, t .is) (omega (arith, rw (t .is) at n)))
 
--- the number of the line that begins at a place
-abbrev lineOf : List ℕ → ℕ → ℕ
-lineOf s p = lineEnds (take p s)
-
-line-of : (s x y : List ℕ) → s ≡ x ++ y → lineOf s (length x) ≡ lineEnds x
-line-of s x y e = ap (λ r. lineOf r (length x)) e ∙ ap lineEnds (take-append-seam x y)
-
-lines-numbered :
-    (s x : List ℕ) (ls : List (List ℕ))
-    → unbroken ls ≡ true
-    → s ≡ x ++ join ls
-    → map (moved (lineOf s)) (linesAt (length x) ls) ≡ numbered (lineEnds x) ls
-unfolding linesAt numbered join endedLines unbroken lineEnds
-lines-numbered s x [] u e = refl
-lines-numbered s x (l ∷ []) u e = rw (line-of s x (join (l ∷ [])) e)
-lines-numbered s x (l ∷ (m ∷ ms)) u e =
-    let y = l ++ lf ∷ [] in
-    let n : length (x ++ y) ≡ length x + suc (length l) = omega (arith, length-append x y, length-append l (lf ∷ [])) in
-    let k : lineEnds (x ++ y) ≡ suc (lineEnds x) =
-    omega (arith, ends-append x y, ends-append l (lf ∷ []), ends-none l (and-left (absent lf l) (unbroken (m ∷ ms)) u)) in
-    let more : s ≡ (x ++ y) ++ join (m ∷ ms) = e ∙ simp append-assoc in
-    let again = lines-numbered s (x ++ y) (m ∷ ms) (and-right (absent lf l) (unbroken (m ∷ ms)) u) more in
-    rw (line-of s x (join (l ∷ (m ∷ ms))) e) (ap (λ r. record { place = lineEnds x; bytes = l } ∷ r) (rw (n, k) at again))
-
-block-of : (i : Item) (b : List Part) → blockOfCue i b ≡ cond (isCue i) (b ∷ []) []
+block-of : (i : Item) (b : List Line) → blockOfCue i b ≡ cond (isCue i) (b ∷ []) []
 unfolding blockOfCue isCue
 block-of nothing b = refl
 block-of (cue c over) b = refl
 block-of (style text) b = refl
 block-of (region r over) b = refl
 
--- blocks with other places give cues where the same blocks do
-module _ (f : ℕ → ℕ) where
-  cue-moved : (seen : Bool) (b : List Part) → isCue (meaning seen (map (moved f) b)) ≡ isCue (meaning seen b)
-  cue-moved seen b =
-      sym (isCue-unplaced seen (map (moved f) b))
-      ∙ ap (λ c. isCue (meaning seen c)) (map-map bare (moved f) b)
-      ∙ isCue-unplaced seen b
-
-  block-moved : (i j : Item) (b : List Part) → isCue i ≡ isCue j → blockOfCue i (map (moved f) b) ≡ map (map (moved f)) (blockOfCue j b)
-  block-moved i j b e = rw (block-of i (map (moved f) b), block-of j b, e) (by-test (isCue j) (λ y. rw y) (λ n. rw n))
-
-  cues-moved : (seen : Bool) (bs : List (List Part)) → cueBlocksFrom seen (map (map (moved f)) bs) ≡ map (map (moved f)) (cueBlocksFrom seen bs)
-  unfolding cueBlocksFrom
-  cues-moved seen [] = refl
-  cues-moved seen (b ∷ bs) =
-      let i = meaning seen b in
-      rw (
-        map-append (map (moved f)) (blockOfCue i b) (cueBlocksFrom (seen || isCue i) bs),
-        block-moved (meaning seen (map (moved f) b)) i b (cue-moved seen b),
-        cue-moved seen b,
-        cues-moved (seen || isCue i) bs,
-      )
-
--- the blocks of the cues, with their places in the text
-pub cuesOf : List ℕ → List (List Part)
-cuesOf s = cueBlocksFrom false (blocks s)
-
-cue-blocks : (s : List ℕ) → cueBlocks s ≡ map (map (moved (lineOf s))) (cuesOf s)
-unfolding cueBlocks blocks cuesOf lineEnds
-cue-blocks s =
-    let t = splits s in
-    let numbers : map (moved (lineOf s)) (linesAt 0 (split s)) ≡ numbered 0 (split s) = rw (t .is) (lines-numbered s [] (t .first ∷ t .rest) (t .whole) (sym (t .joined))) in
-    ap (λ ls. cueBlocksFrom false (behindSignature ls)) (sym numbers)
-    ∙ ap (cueBlocksFrom false) (signature-moved (lineOf s) (linesAt 0 (split s)))
-    ∙ cues-moved (lineOf s) false (blocks s)
-
-cues-count : (seen : Bool) (bs : List (List Part)) → length (cueBlocksFrom seen bs) ≡ length (listed (itemsFrom seen bs) .cues)
+cues-count : (seen : Bool) (bs : List (List Line)) → length (cueBlocksFrom seen bs) ≡ length (listed (itemsFrom seen bs) .cues)
 unfolding cueBlocksFrom itemsFrom listed
 cues-count seen [] = refl
 cues-count seen (b ∷ bs) =
@@ -128,38 +57,24 @@ cues-count seen (b ∷ bs) =
     ∙ ap (λ n. length (blockOfCue i b) + n) (cues-count more bs)
     ∙ sym (cues-into b i (listed (itemsFrom more bs)))
 
-first-moved : (s : List ℕ) (ls : List Part) → firstNumber (map (moved (lineOf s)) ls) ≡ lineOf s (firstNumber ls)
-unfolding firstNumber lineEnds
-first-moved s [] = refl
-first-moved s (l ∷ ls) = refl
-
 -- the block of a cue, by its places
-module _ (s : List ℕ) (number from : ℕ) (st : Stop) (b : BlockAt s from st) (is : getD (cuesOf s) number [] ≡ b .lines) where
-  numbered-block : getD (cueBlocks s) number [] ≡ map (moved (lineOf s)) (b .lines)
-  numbered-block =
-      ap (λ bs. getD bs number []) (cue-blocks s) ∙ List·getD-map (map (moved (lineOf s))) (cuesOf s) number [] ∙ ap (map (moved (lineOf s))) is
-
+module _ (s : List ℕ) (number from : ℕ) (st : Stop) (b : BlockAt s from st) (is : getD (cueBlocks s) number [] ≡ b .lines) where
   abbrev own : List ℕ
   own = take (st .to - from) (drop from s)
 
-  first-line : firstLine s number ≡ lineOf s from
+  first-line : firstLine s number ≡ lineEnds (take from s)
   unfolding firstLine
-  first-line = ap firstNumber numbered-block ∙ first-moved s (b .lines) ∙ ap (lineOf s) (b .begins)
+  first-line = ap firstNumber is ∙ b .begins
 
   block-length : length (getD (cueBlocks s) number []) ≡ suc (lineEnds own)
-  block-length =
-      ap length numbered-block
-      ∙ length-map (b .lines) (moved (lineOf s))
-      ∙ sym (length-bytes (b .lines))
-      ∙ ap length (sym (b .covers))
-      ∙ ends-split own
+  block-length = ap length is ∙ sym (length-bytes (b .lines)) ∙ ap length (sym (b .covers)) ∙ ends-split own
 
   pub own-lines : OwnLines s number from (st .to)
   unfolding lastLine
   own-lines =
       let l : from ≤ st .to = omega (arith, b .starts, b .first-end, b .end-to) in
       let e : st .to ≡ from + (st .to - from) = omega arith in
-      let ends : lineOf s (st .to) ≡ lineOf s from + lineEnds own = ap (lineOf s) e ∙ ap lineEnds (take-add from (st .to - from) s) ∙ ends-append (take from s) own in
+      let ends : lineEnds (take (st .to) s) ≡ lineEnds (take from s) + lineEnds own = ap (λ i. lineEnds (take i s)) e ∙ ap lineEnds (take-add from (st .to - from) s) ∙ ends-append (take from s) own in
       record {
         some = l;
         inside = omega (arith, b .to-at, b .inside);
@@ -207,11 +122,11 @@ pub record Looking (s : List ℕ) (number at n : ℕ) : Type 0 where
   pub inside : at ≤ length s
   pub upto : n ≤ number
   pub within : anyOver (itemsFrom (ltb 0 n) (fresh s at)) ≡ false
-  pub left : drop n (cuesOf s) ≡ cueBlocksFrom (ltb 0 n) (fresh s at)
+  pub left : drop n (cueBlocks s) ≡ cueBlocksFrom (ltb 0 n) (fresh s at)
 
 module _ (s : List ℕ) (number at : ℕ) where
   pub look-start : at ≤ length s → blocks s ≡ fresh s at → anyOver (items s) ≡ false → Looking s number at 0
-  unfolding items cuesOf
+  unfolding items cueBlocks
   look-start l e w =
       record {
         inside = l;
@@ -222,29 +137,29 @@ module _ (s : List ℕ) (number at : ℕ) where
 
   module _ (n : ℕ) (look : Looking s number at n) where
     pub look-end : fresh s at ≡ [] → number < length (lists s .cues) → ⊥
-    unfolding cueBlocksFrom cuesOf lists items
+    unfolding cueBlocksFrom cueBlocks lists items
     look-end e h =
-        let none : drop n (cuesOf s) ≡ [] = look .left ∙ ap (cueBlocksFrom (ltb 0 n)) e in
-        omega (arith, ap length none, length-drop n (cuesOf s), cues-count false (blocks s), look .upto)
+        let none : drop n (cueBlocks s) ≡ [] = look .left ∙ ap (cueBlocksFrom (ltb 0 n)) e in
+        omega (arith, ap length none, length-drop n (cueBlocks s), cues-count false (blocks s), look .upto)
 
     module _ (from : ℕ) (st : Stop) (next : NextAt s at from st) where
       abbrev read : Item
       read = meaningAt (ltb 0 n) s from st
 
-      abbrev more : List (List Part)
+      abbrev more : List (List Line)
       more = cueBlocksFrom (ltb 0 n || isCue read) (fresh s (st .at))
 
-      left-next : (t : Bool) → isCue read ≡ t → drop n (cuesOf s) ≡ cond t (next .block .lines ∷ []) [] ++ more
+      left-next : (t : Bool) → isCue read ≡ t → drop n (cueBlocks s) ≡ cond t (next .block .lines ∷ []) [] ++ more
       left-next t e = look .left ∙ cues-next s at from st next (ltb 0 n) (look .within) ∙ ap (λ t. cond t (next .block .lines ∷ []) [] ++ more) e
 
       pub look-found : isCue read ≡ true → n ≡ number → OwnLines s number from (st .to)
       look-found y e =
           let z : n + 0 ≡ number = omega arith in
-          let is : getD (cuesOf s) number [] ≡ next .block .lines =
-          ap (λ k. getD (cuesOf s) k []) (sym z) ∙ sym (getD-drop n (cuesOf s) 0 []) ∙ ap (λ bs. getD bs 0 []) (left-next true y) in
+          let is : getD (cueBlocks s) number [] ≡ next .block .lines =
+          ap (λ k. getD (cueBlocks s) k []) (sym z) ∙ sym (getD-drop n (cueBlocks s) 0 []) ∙ ap (λ bs. getD bs 0 []) (left-next true y) in
           own-lines s number from st (next .block) is
 
-      look-on : (m : ℕ) → m ≤ number → ltb 0 m ≡ ltb 0 n || isCue read → drop m (cuesOf s) ≡ more → Looking s number (st .at) m
+      look-on : (m : ℕ) → m ≤ number → ltb 0 m ≡ ltb 0 n || isCue read → drop m (cueBlocks s) ≡ more → Looking s number (st .at) m
       look-on m u q e =
           record {
             inside = next .block .inside;
@@ -256,7 +171,7 @@ module _ (s : List ℕ) (number at : ℕ) where
       pub look-cue : isCue read ≡ true → n < number → Looking s number (st .at) (n + 1)
       look-cue y h =
           look-on (n + 1) (omega arith) (lt-ltb 0 (n + 1) (omega arith) ∙ sym (ap (λ t. ltb 0 n || t) y ∙ or-true (ltb 0 n)))
-          (sym (drop-drop 1 n (cuesOf s)) ∙ ap (drop 1) (left-next true y))
+          (sym (drop-drop 1 n (cueBlocks s)) ∙ ap (drop 1) (left-next true y))
 
       pub look-other : isCue read ≡ false → Looking s number (st .at) n
       look-other z = look-on n (look .upto) (sym (ap (λ t. ltb 0 n || t) z ∙ or-false (ltb 0 n))) (left-next false z)
@@ -294,7 +209,7 @@ pub record Naming (s name : List ℕ) (is : List Item) : Type 0 where
   pub left : anyNamed name (ids (listed is .regions)) ≡ isThere (lastNamed 0 name (regionNames s))
 
 module _ (s name : List ℕ) where
-  pub naming-start : (bs : List (List Part)) → blocks s ≡ bs → anyOver (items s) ≡ false → Naming s name (itemsFrom false bs)
+  pub naming-start : (bs : List (List Line)) → blocks s ≡ bs → anyOver (items s) ≡ false → Naming s name (itemsFrom false bs)
   unfolding items lists regionNames
   naming-start bs e w =
       rw (sym e)

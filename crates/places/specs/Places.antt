@@ -1,7 +1,7 @@
 -- Lines and their numbers by places, and what a block gives, as the code asks for it.
-use Prim.Native.Nat.{ℕ, _+_, _≤_}
+use Prim.Native.Nat.{ℕ, _≤_}
 use mathlib.Core.Path.{_≡_}
-use mathlib.Core.Bool.{Bool, true, false, cond, not, _||_, _&&_}
+use mathlib.Core.Bool.{Bool, true, false, not, _||_, _&&_}
 use mathlib.Core.List.{List, [], _∷_}
 use lib.Dec.{eqb}
 use lib.ListN.{length, take}
@@ -9,13 +9,9 @@ use Rattle.format.specs.Bytes.{lf, cr}
 use Rattle.format.specs.Texts.{startsWith, same}
 use Rattle.format.specs.Replacing.{firstLine, lastLine}
 use Rattle.values.specs.Tokens.{partOf}
+use Rattle.blocks.specs.Collecting.{lineEnds}
 use Rattle.blocks.specs.declared.items.Item.{Item}
 use Rattle.blocks.specs.declared.items.Item.the-variants as Item
-
--- how many LF a text has
-unfoldable pub lineEnds : List ℕ → ℕ
-lineEnds [] = 0
-lineEnds (b ∷ s) = cond (eqb b lf) 1 0 + lineEnds s
 
 -- does a raw line end behind this byte, before the bytes s
 unfoldable pub endsLine : ℕ → List ℕ → Bool

@@ -10,8 +10,8 @@ use lib.ListN.{length, getD, take, drop, drop-of-length-le}
 use lib.Seq.{drop-cons}
 use borrow.Author.Tests.{lt-ltb}
 use Rattle.format.specs.Bytes.{ascii, space, tab, lf}
-use Rattle.format.specs.Texts.{Part, same}
-use Rattle.format.specs.Blocks.{seventh, hasSignature, between, blocksFrom}
+use Rattle.format.specs.Texts.{same}
+use Rattle.format.specs.Blocks.{Line, seventh, hasSignature, between, blocksFrom}
 use Rattle.format.specs.Lists.{Item, nothing, cue, style, region, isCue, itemsFrom, into, listed, itemOver, anyOver}
 use Rattle.laws.proofs.Tests.{by-test, or-true, or-false}
 use Rattle.blocks.specs.declared.collecting.Stop.{Stop}
@@ -25,7 +25,7 @@ use Rattle.reader.specs.declared.counting.Counts.{Counts}
 use Rattle.reader.specs.declared.counting.Tally.the-variants as Tally
 use Rattle.reader.specs.Counting.{isOver, withItem, tallyWith}
 
-abbrev pub fresh : List ℕ → ℕ → List (List Part)
+abbrev pub fresh : List ℕ → ℕ → List (List Line)
 fresh s at = blocksFrom between (linesFrom s at)
 
 -- the item of the next block, and those behind it

@@ -29,7 +29,8 @@ use Rattle.replaced.proofs.CueBlocks.{cue-block-at}
 use Rattle.replaced.proofs.Files.{replaced}
 use Rattle.writable.specs.Faults.{testNumber}
 use Rattle.writable.proofs.FaultLaws.{none-fails, number-is}
-use Rattle.places.specs.Places.{lineEnds, OwnLines}
+use Rattle.blocks.specs.Collecting.{lineEnds}
+use Rattle.places.specs.Places.{OwnLines}
 use Rattle.replace.specs.NewCue.{gapAnswer, testedAnswer, countedAnswer, Outcome, Readable}
 
 by-length : (a : ℕ) (x : List ℕ) → eqb a (a + length x) ≡ isEmpty x

@@ -26,7 +26,8 @@ ghost use Rattle.format.specs.Converting.{convertedRoom};
 ghost use Rattle.format.specs.Replacing.{newCueFails, regionNames, newFile, replacingIs, replacingText, replacing, replacedRoom, Replaced};
 ghost use Rattle.format.specs.declared.Replacing.the-variants as Answer;
 ghost use Rattle.output.specs.Puts.{Puts};
-ghost use Rattle.places.specs.Places.{lineEnds, OwnLines};
+ghost use Rattle.blocks.specs.Collecting.{lineEnds};
+ghost use Rattle.places.specs.Places.{OwnLines};
 ghost use Rattle.replace.specs.NewCue.{inPlace, gapAnswer, testedAnswer, countedAnswer, Outcome, Readable};
 
 // The file with the new cue's written form in place of the bytes from one place up to another.
