@@ -1,7 +1,7 @@
 -- A collected block by its places, and what it means. `proofs/BlockLaws.antt` proves that this is what `format` says.
 use Prim.Native.Nat.{ℕ, _+_, _-_, _≤_, _<_}
 use mathlib.Core.Path.{_≡_}
-use mathlib.Core.Bool.{Bool, cond}
+use mathlib.Core.Bool.{Bool, true, false, cond}
 use mathlib.Core.List.{List, [], _∷_}
 use mathlib.Core.Option.{Option, none, some}
 use lib.Dec.{eqb}
@@ -95,6 +95,14 @@ itemIs nothing = Read.Nothing
 itemIs (cue c over) = cond over Read.Over (Read.Cue (cueIs c))
 itemIs (style text) = Read.Style (spanIs text)
 itemIs (region r over) = cond over Read.Over (Read.Region (regionIs r))
+
+-- is it a cue or a region with a number above its limit
+abbrev pub isOver : Made.Item → Bool
+isOver Read.Nothing = false
+isOver Read.Over = true
+isOver (Read.Cue c) = false
+isOver (Read.Style t) = false
+isOver (Read.Region r) = false
 
 abbrev pub behindSpan : ℕ → ℕ → Span
 behindSpan e to = cond (eqb e to) noSpan (spanTo (e + 1) to)

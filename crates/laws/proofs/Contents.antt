@@ -30,7 +30,7 @@ use Rattle.format.specs.declared.settings.Align.{Align}
 use Rattle.format.specs.declared.settings.PositionAlign.{PositionAlign}
 
 -- values with every place and every number 0
-abbrev pub bare : Part → Part
+abbrev bare : Part → Part
 bare l = record { place = 0; bytes = l .bytes }
 
 abbrev pub bareLine : Line → Line
@@ -56,10 +56,10 @@ alike : {A B : Type 0} (f : A → B) (t : Bool) {a b c d : A} → f a ≡ f c �
 alike f true p q = p
 alike f false p q = q
 
--- a token's bytes do not depend on its place
 abbrev partBytes : List Part → List (List ℕ)
 partBytes ts = map (λ t. t .bytes) ts
 
+-- a token's bytes do not depend on its place
 on-token-bytes : (p q b : ℕ) (ts us : List Part) → partBytes ts ≡ partBytes us → partBytes (onToken p b ts) ≡ partBytes (onToken q b us)
 unfolding onToken
 on-token-bytes p q b [] [] e = refl
@@ -312,7 +312,7 @@ tests-bare (cue c over) = (refl, refl)
 tests-bare (style text) = (refl, refl)
 tests-bare (region r over) = (refl, refl)
 
-pub isCue-unplaced : (seen : Bool) (b : List Line) → isCue (meaning seen (unplaced b)) ≡ isCue (meaning seen b)
+isCue-unplaced : (seen : Bool) (b : List Line) → isCue (meaning seen (unplaced b)) ≡ isCue (meaning seen b)
 isCue-unplaced seen b =
     sym (tests-bare (meaning seen (unplaced b)) .0) ∙ ap isCue (meaning-bare seen b) ∙ tests-bare (meaning seen b) .0
 

@@ -1,4 +1,4 @@
 -- What the contracts of this crate's functions say beyond `format`.
 pub mod Places
 pub mod NewCue
-pub mod Counting
+pub mod Finding

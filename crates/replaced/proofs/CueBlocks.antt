@@ -42,7 +42,7 @@ module _ (b : List Line) where
   one-cue (style text) k h = absurd (omega arith)
   one-cue (region r over) k h = absurd (omega arith)
 
-  pub cues-into : (i : Item) (l : Lists) → length (into i l .cues) ≡ length (blockOfCue i b) + length (l .cues)
+  cues-into : (i : Item) (l : Lists) → length (into i l .cues) ≡ length (blockOfCue i b) + length (l .cues)
   unfolding blockOfCue into
   cues-into nothing l = omega arith
   cues-into (cue c over) l = omega arith

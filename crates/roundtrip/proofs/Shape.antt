@@ -87,6 +87,7 @@ unfoldable pub partsAt : ℕ → List (List ℕ) → List Part
 partsAt p [] = []
 partsAt p (t ∷ ts) = record { place = p; bytes = t } ∷ partsAt (p + suc (length t)) ts
 
+-- the texts of two lists, one after the other
 pub parts-append : (p : ℕ) (a b : List (List ℕ)) → partsAt p (a ++ b) ≡ partsAt p a ++ partsAt (p + length (lineEnded a)) b
 unfolding partsAt lineEnded
 parts-append p [] b = let e : p + 0 ≡ p = omega arith in rw e
@@ -264,6 +265,7 @@ gap : (l : Line) (ls : List Line) → isEmpty (l .bytes) ≡ true → blocksFrom
 unfolding blocksFrom ended next stops collected begin
 gap l ls e = rw e
 
+-- the same for lines
 lines-append :
     (k p : ℕ) (a b : List (List ℕ))
     → linesAt k p (a ++ b) ≡ linesAt k p a ++ linesAt (k + length a) (p + length (lineEnded a)) b

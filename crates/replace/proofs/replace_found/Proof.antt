@@ -1,8 +1,10 @@
 -- `replace::replace_found` meets its contract.
 use mathlib.Core.Path.{_≡_, _∙_}
+use native.Mathlib.Omega.{arith}
 use Rattle.format.specs.Plain.{plainText}
 use Rattle.format.specs.Replacing.{noGap}
-use Rattle.replace.proofs.CheckLaws.{within-text, is-plain, gap-inside, gap-told, no-gap, gap-passed}
+use Rattle.places.specs.Places.{OwnLines}
+use Rattle.replace.proofs.CheckLaws.{is-plain, gap-inside, gap-told, no-gap, gap-passed}
 use borrow.Author.Needs.{needs}
 use Rattle.replace.proofs.replace_found.Statement.{statement}
 use Rattle.replace.proofs.replace_found.Tie as tie
@@ -10,25 +12,22 @@ use Rattle.replace.proofs.replace_found.Tie as tie
 abbrev start-of : tie.After-lacks-gap → tie.Start
 start-of asked = asked .before .before .before .before .before .before .before
 
--- what was tested is the gap of the cue with this number
+-- the lines that were found are those of the cue with this number
+own-lines : (start : tie.Start) → let args = start .args in OwnLines (args .s .now) (args .number) (args .found .own .from) (args .found .own .to)
+own-lines start = start .pre .1 .own (start .pre .2)
+
+-- what was tested is the gap of that cue
 gap :
     (asked : tie.After-lacks-gap)
     → let args = start-of asked .args in
-    noGap (plainText (args .raw .now)) (args .number) (args .text .now) (args .t5) ≡ asked .lacks-gap .result
+    noGap (plainText (args .raw .now)) (args .number) (args .text .now) (args .t6) ≡ asked .lacks-gap .result
 gap asked =
     let part = asked .before in
-    let found = part .before in
     let start = start-of asked in
     let args = start .args in
-    let own = found .find-cue .result in
-    gap-told (args .raw .now) (args .s .now) (args .text .now) (args .t5) (part .part .result .now) (args .number) (own .from) (own .to) (asked .lacks-gap .result)
-    (start .pre .0 .text) (found .find-cue .ensures) (part .part .ensures) (asked .lacks-gap .ensures)
-
-find-cue-requires : tie.Need-find-cue-requires
-find-cue-requires c κs =
-    let start = c .before .before .before .before in
-    let args = start .args in
-    (within-text (args .raw .now) (args .s .now) (start .pre .0), start .pre .0 .within, start .pre .1)
+    let own = args .found .own in
+    gap-told (args .raw .now) (args .s .now) (args .text .now) (args .t6) (part .part .result .now) (args .number) (own .from) (own .to) (asked .lacks-gap .result)
+    (start .pre .0) (own-lines start) (part .part .ensures) (asked .lacks-gap .ensures)
 
 array-read-part : tie.Need-array-read-part
 array-read-part c = search needs
@@ -41,20 +40,21 @@ part-requires c κs = search needs
 
 lacks-gap-requires : tie.Need-lacks-gap-requires
 lacks-gap-requires c κs =
-    let found = c .before in
-    let start = found .before .before .before .before .before in
+    let start = c .before .before .before .before .before .before in
     let args = start .args in
-    let own = found .find-cue .result in
-    (is-plain (args .raw .now) (args .s .now) (start .pre .0), gap-inside (args .s .now) (args .number) (own .from) (own .to) (start .pre .1) (found .find-cue .ensures))
+    let own = args .found .own in (
+      is-plain (args .raw .now) (args .s .now) (start .pre .0),
+      gap-inside (args .s .now) (args .number) (own .from) (own .to) (omega (arith, start .pre .1 .counted, start .pre .2)) (own-lines start),
+    )
 
 returns : tie.Need-returns
 returns c =
     let asked = c .before in
     let args = start-of asked .args in
-    no-gap (args .raw .now) (args .number) (args .text .now) (args .t5) (args .out .now) (gap asked ∙ c .if1 .taken)
+    no-gap (args .raw .now) (args .number) (args .text .now) (args .t6) (args .out .now) (gap asked ∙ c .if1 .taken)
 
 replace-own-requires : tie.Need-replace-own-requires
-replace-own-requires c κs = search needs
+replace-own-requires c κs = let start = start-of (c .before .before) in (start .pre .0, own-lines start, start .pre .3)
 
 same-length : tie.Need-same-length
 same-length c = search needs
@@ -64,13 +64,12 @@ returns-2 c =
     let done = c .before .before in
     let asked = done .before .before .before in
     let args = start-of asked .args in
-    gap-passed (args .raw .now) (args .number) (args .text .now) (args .t5) (args .out .now) (gap asked ∙ done .before .before .if1 .left) (done .replace-own .ensures)
+    gap-passed (args .raw .now) (args .number) (args .text .now) (args .t6) (args .out .now) (gap asked ∙ done .before .before .if1 .left) (done .replace-own .ensures)
 
 pub replace-found-spec : {M : Type 1} → statement M
 replace-found-spec =
     tie.close
     (tie.spec
-    find-cue-requires
     array-read-part
     array-read-part-2
     part-requires
