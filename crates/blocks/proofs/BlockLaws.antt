@@ -14,7 +14,7 @@ use Rattle.format.specs.Bytes.{lf}
 use Rattle.format.specs.Texts.{Part, nowhere, isEmpty, run}
 use Rattle.format.specs.Lines.{split, join, endedLines}
 use Rattle.format.specs.TimingLines.{Timing, timingLine}
-use Rattle.format.specs.Blocks.{linesAt, behindSignature, blocks, Collecting, between, header, inside, holdsArrow, canTime, stops, begin, goOn, collected, ended, next, blocksFrom, bytesOf, joined}
+use Rattle.format.specs.Blocks.{Line, linesAt, linePart, behindSignature, blocks, Collecting, between, header, inside, holdsArrow, canTime, stops, begin, goOn, collected, ended, next, blocksFrom, bytesOf, joined}
 use Rattle.format.specs.Lists.{nothing, cueOf, definition, meaning}
 use Rattle.format.specs.Replacing.{firstNumber}
 use Rattle.laws.proofs.Tests.{by-test, and-swap, absent}
@@ -24,26 +24,26 @@ use Rattle.laws.proofs.Runs.{run-next, run-take, run-length, run-at, run-after}
 use Rattle.values.proofs.NumberLaws.{is-empty-not}
 use Rattle.blocks.specs.declared.collecting.Head.{Head}
 use Rattle.blocks.specs.declared.collecting.Stop.{Stop}
-use Rattle.blocks.specs.Collecting.{linesFrom, headAfter, collectFrom}
+use Rattle.blocks.specs.Collecting.{lineEnds, linesFrom, headAfter, collectFrom}
 use Rattle.blocks.specs.Items.{part, behindLine, cueWith, definitionWith, meaningAt, BlockAt}
-use Rattle.blocks.proofs.LineLaws.{inLine, lineAt, lines-next, lines-end, collect-line}
+use Rattle.blocks.proofs.LineLaws.{inLine, lineAt, lineFrom, lines-next, lines-end, collect-line}
 
 -- how many of the next lines can be the timing line, behind one line more
 nextLeft : ℕ → Bool → ℕ
 nextLeft k arrow = cond (eqb k 0) 0 (cond arrow 0 (k - 1))
 
-leftOf : List Part → ℕ
+leftOf : List Line → ℕ
 leftOf [] = 2
 leftOf (first ∷ []) = nextLeft 2 (holdsArrow (first .bytes))
 leftOf (first ∷ (second ∷ ls)) = 0
 
-left-can : (ls : List Part) → not (canTime ls) ≡ eqb (leftOf ls) 0
+left-can : (ls : List Line) → not (canTime ls) ≡ eqb (leftOf ls) 0
 unfolding leftOf canTime nextLeft
 left-can [] = refl
 left-can (first ∷ []) = by-test (holdsArrow (first .bytes)) (λ y. rw y) (λ n. rw n)
 left-can (first ∷ (second ∷ ls)) = refl
 
-left-more : (ls : List Part) (l : Part) → leftOf (ls ++ l ∷ []) ≡ nextLeft (leftOf ls) (holdsArrow (l .bytes))
+left-more : (ls : List Line) (l : Line) → leftOf (ls ++ l ∷ []) ≡ nextLeft (leftOf ls) (holdsArrow (l .bytes))
 unfolding leftOf nextLeft
 left-more [] l = refl
 left-more (first ∷ []) l =
@@ -51,26 +51,26 @@ left-more (first ∷ []) l =
 left-more (first ∷ (second ∷ ls)) l = refl
 
 -- does collecting stop before a line
-stopAt : ℕ → Part → Bool
+stopAt : ℕ → Line → Bool
 stopAt k l = isEmpty (l .bytes) || (eqb k 0 && holdsArrow (l .bytes))
 
 -- the lines that a block takes, and those from the one on before which it stops
-taken : ℕ → List Part → List Part
+taken : ℕ → List Line → List Line
 taken k [] = []
 taken k (l ∷ ls) = cond (stopAt k l) [] (l ∷ taken (nextLeft k (holdsArrow (l .bytes))) ls)
 
-rest : ℕ → List Part → List Part
+rest : ℕ → List Line → List Line
 rest k [] = []
 rest k (l ∷ ls) = cond (stopAt k l) (l ∷ ls) (rest (nextLeft k (holdsArrow (l .bytes))) ls)
 
-abbrev fresh : List Part → List (List Part)
+abbrev fresh : List Line → List (List Line)
 fresh ls = blocksFrom between ls
 
-goes-on : (st : Collecting) (l : Part) (ls : List Part) → stops st l ≡ false → blocksFrom st (l ∷ ls) ≡ blocksFrom (goOn st l) ls
+goes-on : (st : Collecting) (l : Line) (ls : List Line) → stops st l ≡ false → blocksFrom st (l ∷ ls) ≡ blocksFrom (goOn st l) ls
 unfolding blocksFrom ended next
 goes-on st l ls n = rw n
 
-inside-is : (ls ms : List Part) → blocksFrom (inside ls) ms ≡ (ls ++ taken (leftOf ls) ms) ∷ fresh (rest (leftOf ls) ms)
+inside-is : (ls ms : List Line) → blocksFrom (inside ls) ms ≡ (ls ++ taken (leftOf ls) ms) ∷ fresh (rest (leftOf ls) ms)
 unfolding blocksFrom collected taken rest stopAt stops goOn
 inside-is ls [] = ap (λ x. x ∷ []) (sym (append-nil ls))
 inside-is ls (l ∷ ms) =
@@ -81,7 +81,7 @@ inside-is ls (l ∷ ms) =
     ∙ inside-is (ls ++ l ∷ []) ms
     ∙ rw (left-more ls l, n, append-assoc ls (l ∷ []) (taken (nextLeft (leftOf ls) (holdsArrow (l .bytes))) ms)))
 
-header-is : (ms : List Part) → blocksFrom header ms ≡ fresh (rest 0 ms)
+header-is : (ms : List Line) → blocksFrom header ms ≡ fresh (rest 0 ms)
 unfolding blocksFrom collected rest stopAt stops goOn nextLeft
 header-is [] = refl
 header-is (l ∷ ms) =
@@ -91,11 +91,11 @@ header-is (l ∷ ms) =
     (λ n. goes-on header l ms (same ∙ n) ∙ rw n (header-is ms))
 
 -- where nothing is being collected
-pub fresh-empty : (l : Part) (ms : List Part) → isEmpty (l .bytes) ≡ true → fresh (l ∷ ms) ≡ fresh ms
+pub fresh-empty : (l : Line) (ms : List Line) → isEmpty (l .bytes) ≡ true → fresh (l ∷ ms) ≡ fresh ms
 unfolding blocksFrom ended next stops collected begin
 fresh-empty l ms e = rw e
 
-fresh-line : (l : Part) (ms : List Part) → isEmpty (l .bytes) ≡ false → fresh (l ∷ ms) ≡ blocksFrom (inside (l ∷ [])) ms
+fresh-line : (l : Line) (ms : List Line) → isEmpty (l .bytes) ≡ false → fresh (l ∷ ms) ≡ blocksFrom (inside (l ∷ [])) ms
 unfolding blocksFrom ended next stops collected begin
 fresh-line l ms n = rw n
 
@@ -151,7 +151,7 @@ slice-none : (s : List ℕ) (e : ℕ) → slice s e e ≡ []
 slice-none s e = let n : e - e ≡ 0 = omega arith in rw n
 
 -- what collecting takes of the lines behind one that ends at e, and where it stops
-record Took (s : List ℕ) (e : ℕ) (h : Head) (ls : List Part) : Type 0 where
+record Took (s : List ℕ) (e : ℕ) (h : Head) (ls : List Line) : Type 0 where
   goes : fresh (rest (h .left) ls) ≡ fresh (linesFrom s (collectFrom h e ls .at))
   upto : collectFrom h e ls .to ≤ collectFrom h e ls .at
   within : collectFrom h e ls .at ≤ length s
@@ -165,7 +165,7 @@ unfolding blocksFrom collected isEmpty run
 last-line s =
     let none : lineAt s (length s) ≡ [] = let all : length s ≤ length s = omega arith in ap (run inLine) (drop-of-length-le s all) in
     rw (lines-next s (length s) (length s) (omega arith) (sym (ap (λ x. length s + length x) none ∙ add-zero (length s))), none, lines-end s (length s + 1) (omega arith))
-    (fresh-empty (record { place = length s; bytes = [] }) [] refl)
+    (fresh-empty (record { number = lineEnds (take (length s) s); place = length s; bytes = [] }) [] refl)
 
 -- no block begins at a text's end or behind it
 pub fresh-behind : (s : List ℕ) (p : ℕ) → length s ≤ p → fresh (linesFrom s p) ≡ []
@@ -176,7 +176,7 @@ fresh-behind s p l =
     (λ n. let e : p ≡ length s = omega (arith, ltb-false (length s) p n) in rw e (last-line s))
 
 collect-stop :
-    (h : Head) (e : ℕ) (l : Part) (ms : List Part)
+    (h : Head) (e : ℕ) (l : Line) (ms : List Line)
     → stopAt (h .left) l ≡ true
     → (collectFrom h e (l ∷ ms) .at ≡ l .place) × (collectFrom h e (l ∷ ms) .to ≡ e) × (collectFrom h e (l ∷ ms) .head ≡ h)
 unfolding collectFrom stopAt
@@ -186,7 +186,7 @@ collect-stop h e l ms y =
     (λ b. let k : eqb (h .left) 0 && holdsArrow (l .bytes) ≡ true = rw b at y in rw (b, k) (refl, refl, refl))
 
 collect-step :
-    (h : Head) (e : ℕ) (l : Part) (ms : List Part)
+    (h : Head) (e : ℕ) (l : Line) (ms : List Line)
     → stopAt (h .left) l ≡ false
     → collectFrom h e (l ∷ ms) ≡ collectFrom (headAfter h (l .place + length (l .bytes)) (holdsArrow (l .bytes))) (l .place + length (l .bytes)) ms
 unfolding collectFrom stopAt
@@ -196,12 +196,12 @@ collect-step h e l ms n =
     (λ b. let k : eqb (h .left) 0 && holdsArrow (l .bytes) ≡ false = rw b at n in rw (b, k))
 
 -- the lines at a stop, and at a line that is taken
-lines-stop : (k : ℕ) (l : Part) (ms : List Part) → stopAt k l ≡ true → (taken k (l ∷ ms) ≡ []) × (rest k (l ∷ ms) ≡ l ∷ ms)
+lines-stop : (k : ℕ) (l : Line) (ms : List Line) → stopAt k l ≡ true → (taken k (l ∷ ms) ≡ []) × (rest k (l ∷ ms) ≡ l ∷ ms)
 unfolding taken rest
 lines-stop k l ms y = (rw y, rw y)
 
 lines-step :
-    (k : ℕ) (l : Part) (ms : List Part)
+    (k : ℕ) (l : Line) (ms : List Line)
     → stopAt k l ≡ false
     → (taken k (l ∷ ms) ≡ l ∷ taken (nextLeft k (holdsArrow (l .bytes))) ms) × (rest k (l ∷ ms) ≡ rest (nextLeft k (holdsArrow (l .bytes))) ms)
 unfolding taken rest
@@ -221,7 +221,7 @@ took-end s e h q =
     }
 
 took-stop :
-    (s : List ℕ) (e : ℕ) (h : Head) (l : Part) (ms : List Part)
+    (s : List ℕ) (e : ℕ) (h : Head) (l : Line) (ms : List Line)
     → linesFrom s (e + 1) ≡ l ∷ ms
     → l .place ≡ e + 1
     → e < length s
@@ -243,18 +243,17 @@ took-stop s e h l ms q p i y =
     }
 
 took-step :
-    (s : List ℕ) (e : ℕ) (h : Head) (ms : List Part)
+    (s : List ℕ) (e : ℕ) (h : Head) (ms : List Line)
     → e < length s
     → getD s e 0 ≡ lf
-    → let l : Part = record { place = e + 1; bytes = lineAt s (e + 1) } in
-    stopAt (h .left) l ≡ false
+    → stopAt (h .left) (lineFrom s (e + 1)) ≡ false
     → Took s (endAt s (e + 1)) (headAfter h (endAt s (e + 1)) (holdsArrow (lineAt s (e + 1)))) ms
-    → Took s e h (l ∷ ms)
+    → Took s e h (lineFrom s (e + 1) ∷ ms)
 unfolding endedLines bytesOf joined unbroken
 took-step s e h ms i c n t =
     let p = e + 1 in
     let x = lineAt s p in
-    let l : Part = record { place = p; bytes = x } in
+    let l = lineFrom s p in
     let e₂ = endAt s p in
     let h₂ = headAfter h e₂ (holdsArrow x) in
     let k : h₂ .left ≡ nextLeft (h .left) (holdsArrow x) = head-left h e₂ (holdsArrow x) in
@@ -281,8 +280,8 @@ took s (suc n) e h f l c =
     let x = lineAt s (e + 1) in
     let e₂ = endAt s (e + 1) in
     let lines = lines-next s (e + 1) e₂ (omega arith) refl in
-    by-test (stopAt (h .left) (record { place = e + 1; bytes = x }))
-    (λ stop. rw lines (took-stop s e h (record { place = e + 1; bytes = x }) (linesFrom s (e₂ + 1)) lines refl i stop))
+    by-test (stopAt (h .left) (lineFrom s (e + 1)))
+    (λ stop. rw lines (took-stop s e h (lineFrom s (e + 1)) (linesFrom s (e₂ + 1)) lines refl i stop))
     (λ go. rw lines
     (took-step s e h (linesFrom s (e₂ + 1)) i (c i) go
     (took s n e₂ (headAfter h e₂ (holdsArrow x)) (omega arith) (line-inside s (e + 1) (omega arith)) (line-lf s (e + 1) (omega arith))))))
@@ -295,7 +294,7 @@ ended-join (y ∷ ys) z e = cc
 
 -- the lines taken, as one part
 behind-is :
-    (s : List ℕ) (e : ℕ) (h : Head) (ls : List Part)
+    (s : List ℕ) (e : ℕ) (h : Head) (ls : List Line)
     → Took s e h ls
     → e ≤ length s
     → (e < length s → getD s e 0 ≡ lf)
@@ -309,7 +308,7 @@ behind-is s e h ls t l c =
     let i : e < length s = omega (arith, t .upto, t .within) in
     rw n (ap (λ b. record { place = e + 1; bytes = b }) (ended-join (bytesOf (taken (h .left) ls)) (slice s (e + 1) to) (t .bytes ∙ slice-lf s e to (c i) i k))))
 
-head-stays : (h : Head) (e : ℕ) (ls : List Part) → h .left ≡ 0 → collectFrom h e ls .head ≡ h
+head-stays : (h : Head) (e : ℕ) (ls : List Line) → h .left ≡ 0 → collectFrom h e ls .head ≡ h
 unfolding collectFrom
 head-stays h e [] k = refl
 head-stays h e (l ∷ ls) k =
@@ -319,32 +318,32 @@ head-stays h e (l ∷ ls) k =
     (λ y. collect-stop h e l ls y .2)
     (λ n. ap (λ st. st .head) (collect-step h e l ls n) ∙ rw same (head-stays h e₂ ls k))
 
-cue-with : (id : Part) (ls : List Part) (t : Option Timing) → cueOf id ls t ≡ cueWith id (joined ls) t
+cue-with : (id : Part) (ls : List Line) (t : Option Timing) → cueOf id ls t ≡ cueWith id (joined ls) t
 unfolding cueOf
 cue-with id ls none = refl
 cue-with id ls (some t) = refl
 
 -- what a block means by its first lines
 meaning-first :
-    (seen : Bool) (l : Part) (ls : List Part) → holdsArrow (l .bytes) ≡ true → meaning seen (l ∷ ls) ≡ cueWith nowhere (joined ls) (timingLine l)
+    (seen : Bool) (l : Line) (ls : List Line) → holdsArrow (l .bytes) ≡ true → meaning seen (l ∷ ls) ≡ cueWith nowhere (joined ls) (timingLine (linePart l))
 unfolding meaning
-meaning-first seen l [] y = rw y (cue-with nowhere [] (timingLine l))
-meaning-first seen l (m ∷ ms) y = rw y (cue-with nowhere (m ∷ ms) (timingLine l))
+meaning-first seen l [] y = rw y (cue-with nowhere [] (timingLine (linePart l)))
+meaning-first seen l (m ∷ ms) y = rw y (cue-with nowhere (m ∷ ms) (timingLine (linePart l)))
 
-meaning-one : (seen : Bool) (l : Part) → holdsArrow (l .bytes) ≡ false → meaning seen (l ∷ []) ≡ nothing
+meaning-one : (seen : Bool) (l : Line) → holdsArrow (l .bytes) ≡ false → meaning seen (l ∷ []) ≡ nothing
 unfolding meaning
 meaning-one seen l n = rw n
 
 meaning-second :
-    (seen : Bool) (l m : Part) (ms : List Part)
+    (seen : Bool) (l m : Line) (ms : List Line)
     → holdsArrow (l .bytes) ≡ false
     → holdsArrow (m .bytes) ≡ true
-    → meaning seen (l ∷ (m ∷ ms)) ≡ cueWith l (joined ms) (timingLine m)
+    → meaning seen (l ∷ (m ∷ ms)) ≡ cueWith (linePart l) (joined ms) (timingLine (linePart m))
 unfolding meaning
-meaning-second seen l m ms n y = rw (n, y) (cue-with l ms (timingLine m))
+meaning-second seen l m ms n y = rw (n, y) (cue-with (linePart l) ms (timingLine (linePart m)))
 
 meaning-none :
-    (seen : Bool) (l m : Part) (ms : List Part)
+    (seen : Bool) (l m : Line) (ms : List Line)
     → holdsArrow (l .bytes) ≡ false
     → holdsArrow (m .bytes) ≡ false
     → meaning seen (l ∷ (m ∷ ms)) ≡ definitionWith seen (l .bytes) (joined (m ∷ ms))
@@ -359,10 +358,10 @@ module _ (s : List ℕ) (from : ℕ) (i : from < length s) (b : inLine (getD s f
   abbrev e₁ : ℕ
   e₁ = endAt s from
 
-  abbrev l₁ : Part
-  l₁ = record { place = from; bytes = x₁ }
+  abbrev l₁ : Line
+  l₁ = lineFrom s from
 
-  abbrev behind₁ : List Part
+  abbrev behind₁ : List Line
   behind₁ = linesFrom s (e₁ + 1)
 
   inside₁ : from ≤ length s
@@ -377,7 +376,7 @@ module _ (s : List ℕ) (from : ℕ) (i : from < length s) (b : inLine (getD s f
   lines₁ : linesFrom s from ≡ l₁ ∷ behind₁
   lines₁ = lines-next s from e₁ inside₁ refl
 
-  is₁ : l₁ ≡ part s from e₁
+  is₁ : linePart l₁ ≡ part s from e₁
   is₁ = ap (λ x. record { place = from; bytes = x }) (line-part s from inside₁)
 
   took₁ : (h : Head) → Took s e₁ h behind₁
@@ -459,10 +458,10 @@ module _ (s : List ℕ) (from : ℕ) (i : from < length s) (b : inLine (getD s f
       abbrev e₂ : ℕ
       e₂ = endAt s (e₁ + 1)
 
-      abbrev l₂ : Part
-      l₂ = record { place = e₁ + 1; bytes = x₂ }
+      abbrev l₂ : Line
+      l₂ = lineFrom s (e₁ + 1)
 
-      abbrev behind₂ : List Part
+      abbrev behind₂ : List Line
       behind₂ = linesFrom s (e₂ + 1)
 
       inside₂ : e₁ + 1 ≤ length s
@@ -471,7 +470,7 @@ module _ (s : List ℕ) (from : ℕ) (i : from < length s) (b : inLine (getD s f
       lines₂ : behind₁ ≡ l₂ ∷ behind₂
       lines₂ = lines-next s (e₁ + 1) e₂ inside₂ refl
 
-      is₂ : l₂ ≡ part s (e₁ + 1) e₂
+      is₂ : linePart l₂ ≡ part s (e₁ + 1) e₂
       is₂ = ap (λ x. record { place = e₁ + 1; bytes = x }) (line-part s (e₁ + 1) inside₂)
 
       lf₂ : e₂ < length s → getD s e₂ 0 ≡ lf
@@ -558,7 +557,7 @@ module _ (s : List ℕ) (from : ℕ) (i : from < length s) (b : inLine (getD s f
       (λ y. rw (st, y) (first-timed y))
       (λ n. rw (st, n) (first-untimed n))
 
-none-left : (a : Bool) (ms : List Part) → rest (nextLeft 0 a) ms ≡ rest 0 ms
+none-left : (a : Bool) (ms : List Line) → rest (nextLeft 0 a) ms ≡ rest 0 ms
 unfolding nextLeft
 none-left a ms = refl
 
@@ -571,7 +570,7 @@ pub header-at :
 header-at s p l =
     let h : Head = record { left = 0; first = 0; end = 0; timed = false } in
     let e = endAt s p in
-    let m : Part = record { place = p; bytes = lineAt s p } in
+    let m = lineFrom s p in
     let ms = linesFrom s (e + 1) in
     let lines : linesFrom s p ≡ m ∷ ms = lines-next s p e l refl in
     by-test (stopAt 0 m)
@@ -581,8 +580,8 @@ header-at s p l =
     let st : collectFrom h p (linesFrom s p) ≡ collectFrom h e ms = ap (collectFrom h p) lines ∙ collect-step h p m ms n in
     (header-is (linesFrom s p) ∙ ap (λ r. fresh (rest 0 r)) lines ∙ ap fresh (lines-step 0 m ms n .1 ∙ none-left (holdsArrow (lineAt s p)) ms) ∙ tk .goes ∙ ap (λ a. fresh (linesFrom s (a .at))) (sym st), rw st (tk .within)))
 
-from-start : (s : List ℕ) → linesAt 0 (split s) ≡ linesFrom s 0
-unfolding linesFrom
+from-start : (s : List ℕ) → linesAt 0 0 (split s) ≡ linesFrom s 0
+unfolding linesFrom lineEnds
 from-start s = rw (le-ltb (length s) 0 (omega arith))
 
 -- the blocks of a text are those of the lines behind its first, from the header on

@@ -1,12 +1,12 @@
 -- What a block gives, from parts of the text by their places.
 use Prim.Native.Nat.{ℕ, _+_, _-_, _≤_, _<_, min}
 use mathlib.Core.Path.{_≡_, refl, sym, ap, _∙_}
-use mathlib.Core.Bool.{Bool, false, _&&_}
+use mathlib.Core.Bool.{Bool, true, false, _&&_, true≢false}
 use mathlib.Core.List.{List, [], _∷_}
 use mathlib.Core.Option.{Option, none, some}
 use native.Mathlib.Omega.{arith}
 use lib.Dec.{eqb, ltb}
-use lib.ListN.{length, take, drop, length-drop}
+use lib.ListN.{length, take, drop, length-drop, length-take}
 use lib.Seq.{length-take-le}
 use borrow.Author.Tests.{eqb-true, eqb-false, eq-eqb, ne-eqb, ltb-true, ltb-false}
 use Rattle.format.specs.Bytes.{white}
@@ -17,6 +17,7 @@ use Rattle.format.specs.TimingLines.{Timing}
 use Rattle.format.specs.Lists.{regionOf, isWord}
 use Rattle.laws.proofs.Tests.{by-test}
 use Rattle.laws.proofs.Runs.{run-length, all-run, run-not-all}
+use Rattle.laws.proofs.Standing.{Stands}
 use Rattle.values.specs.Tokens.{spanTo, partOf}
 use Rattle.values.proofs.NumberLaws.{is-empty-not}
 use Rattle.timing.specs.TimingLines.{timingLineIs}
@@ -79,3 +80,27 @@ run-to-end p s n l =
     ne-eqb (n + length (run p (drop n s))) (length s) (λ q. absurd (omega (arith, length-drop n s))) ∙ sym (run-not-all p (drop n s) k))
     (λ z. let k = ltb-false (length (run p (drop n s))) (length (drop n s)) z in
     eq-eqb (n + length (run p (drop n s))) (length s) (omega (arith, length-drop n s)) ∙ sym (all-run p (drop n s) (omega arith)))
+
+no-bytes : (x : List ℕ) → isEmpty x ≡ true → x ≡ []
+unfolding isEmpty
+no-bytes [] e = refl
+no-bytes (b ∷ x) e = absurd (true≢false (sym e))
+
+pub some-bytes : (x : List ℕ) → isEmpty x ≡ false → 0 < length x
+unfolding isEmpty
+some-bytes [] e = absurd (true≢false e)
+some-bytes (b ∷ x) e = omega arith
+
+-- a part that stands in the text, by the places that the code holds of it
+pub part-back : (s : List ℕ) (p : Part) → Stands s p → partOf s (spanIs p .from) (spanIs p .to) .bytes ≡ p .bytes
+unfolding spanIs
+part-back s p h =
+    by-test (isEmpty (p .bytes))
+    (λ y. let a : min 0 (length s) ≡ 0 = omega arith in rw (y, a) (sym (no-bytes (p .bytes) y)))
+    (λ n. let x = p .bytes in
+    let some = some-bytes x n in
+    let fits : p .place + length x ≤ length s = omega (arith, ap length h, length-take (length x) (drop (p .place) s), length-drop (p .place) s) in
+    let a : min (p .place + length x) (length s) ≡ p .place + length x = omega arith in
+    let b : min (p .place) (p .place + length x) ≡ p .place = omega arith in
+    let c : p .place + length x - p .place ≡ length x = omega arith in
+    rw (n, a, b, c) h)

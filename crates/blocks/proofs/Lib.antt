@@ -2,3 +2,5 @@
 pub mod LineLaws
 pub mod BlockLaws
 pub mod ItemLaws
+pub mod SignatureLaws
+pub mod WalkLaws

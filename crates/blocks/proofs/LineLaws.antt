@@ -2,22 +2,22 @@
 use Prim.Native.Nat.{ℕ, suc, _+_, _≤_, _<_}
 use mathlib.Core.Path.{_≡_, refl, sym, ap, _∙_}
 use mathlib.Core.Bool.{Bool, true, false, cond, not, _&&_, _||_}
-use mathlib.Core.List.{List, [], _∷_}
+use mathlib.Core.List.{List, [], _∷_, _++_}
 use native.Mathlib.Omega.{arith}
 use lib.Dec.{eqb, ltb}
-use lib.ListN.{length, getD, drop, length-drop}
-use lib.Seq.{drop-cons, drop-drop}
+use lib.ListN.{length, getD, take, drop, length-drop}
+use lib.Seq.{take-add, drop-cons, drop-drop}
 use borrow.Author.Tests.{eqb-true, ne-eqb, lt-ltb, le-ltb, ltb-true, ltb-false}
 use Rattle.format.specs.Bytes.{ascii, lf}
 use Rattle.format.specs.Texts.{startsWith, isEmpty, all, run}
 use Rattle.format.specs.Lines.{split, before, onFirst}
-use Rattle.format.specs.Blocks.{linesAt, holdsArrow}
+use Rattle.format.specs.Blocks.{Line, linesAt, holdsArrow}
 use Rattle.laws.proofs.Tests.{by-test, and-left, and-right, and-false, and-true}
 use Rattle.laws.proofs.Runs.{run-next, run-stop, run-end, run-length}
 use Rattle.values.proofs.NumberLaws.{is-empty-not}
 use Rattle.blocks.specs.declared.collecting.Head.{Head}
 use Rattle.blocks.specs.declared.collecting.Why.the-variants as Why
-use Rattle.blocks.specs.Collecting.{linesFrom, headAfter, collectFrom}
+use Rattle.blocks.specs.Collecting.{lineEnds, linesFrom, headAfter, collectFrom}
 
 abbrev pub inLine : ℕ → Bool
 inLine b = not (eqb b lf)
@@ -40,26 +40,53 @@ split-first (b ∷ s) =
     (λ y. rw (y, lt-ltb 0 (suc (length s)) (omega arith)))
     (λ n. rw (n, split-first s, ltb-suc (length (run inLine s)) (length s)))
 
+-- how many LF texts have
+pub ends-append : (x y : List ℕ) → lineEnds (x ++ y) ≡ lineEnds x + lineEnds y
+unfolding lineEnds
+ends-append [] y = omega arith
+ends-append (b ∷ x) y = omega (arith, ends-append x y)
+
+-- a line with the LF that ends it has one
+ends-line : (x : List ℕ) → length (run inLine x) < length x → lineEnds (take (suc (length (run inLine x))) x) ≡ 1
+unfolding lineEnds run
+ends-line [] h = absurd (omega arith)
+ends-line (b ∷ x) h =
+    by-test (eqb b lf)
+    (λ y. rw y)
+    (λ n. let l : suc (length (run inLine x)) < suc (length x) = rw n at h in rw n (omega (arith, ends-line x (omega arith))))
+
+-- the bytes of the line that begins at a place, and that line
+abbrev pub lineAt : List ℕ → ℕ → List ℕ
+lineAt s p = run inLine (drop p s)
+
+abbrev pub lineFrom : List ℕ → ℕ → Line
+lineFrom s p = record { number = lineEnds (take p s); place = p; bytes = lineAt s p }
+
+-- the line after an LF has the next number
+number-next :
+    (s : List ℕ) (p : ℕ) → length (lineAt s p) < length (drop p s) → suc (lineEnds (take p s)) ≡ lineEnds (take (p + suc (length (lineAt s p))) s)
+number-next s p l =
+    let n = suc (length (lineAt s p)) in
+    omega (arith, ends-append (take p s) (take n (drop p s)), ends-line (drop p s) l, ap lineEnds (take-add p n s))
+
 pub lines-end : (s : List ℕ) (p : ℕ) → length s < p → linesFrom s p ≡ []
 unfolding linesFrom
 lines-end s p l = rw (lt-ltb (length s) p l)
 
 -- a line, and those behind it
-pub lines-next :
-    (s : List ℕ) (p e : ℕ)
-    → p ≤ length s
-    → e ≡ p + length (run inLine (drop p s))
-    → linesFrom s p ≡ record { place = p; bytes = run inLine (drop p s) } ∷ linesFrom s (e + 1)
+pub lines-next : (s : List ℕ) (p e : ℕ) → p ≤ length s → e ≡ p + length (lineAt s p) → linesFrom s p ≡ lineFrom s p ∷ linesFrom s (e + 1)
 unfolding linesFrom linesAt others
 lines-next s p e l q =
-    let x = run inLine (drop p s) in
+    let x = lineAt s p in
     let at : p + suc (length x) ≡ e + 1 = omega arith in
     let n = length-drop p s in
     let k : suc (length x) + p ≡ e + 1 = omega arith in
     rw (le-ltb (length s) p l, split-first (drop p s), at)
-    (ap (λ r. record { place = p; bytes = x } ∷ r)
+    (ap (λ r. lineFrom s p ∷ r)
     (by-test (ltb (length x) (length (drop p s)))
-    (λ y. rw (y, le-ltb (length s) (e + 1) (omega (arith, ltb-true (length x) (length (drop p s)) y)), drop-drop (suc (length x)) p s, at))
+    (λ y. let more = ltb-true (length x) (length (drop p s)) y in
+    let number : suc (lineEnds (take p s)) ≡ lineEnds (take (e + 1) s) = number-next s p more ∙ ap (λ i. lineEnds (take i s)) at in
+    rw (y, le-ltb (length s) (e + 1) (omega arith), drop-drop (suc (length x)) p s, at, number))
     (λ z. rw (z, lt-ltb (length s) (e + 1) (omega (arith, ltb-false (length x) (length (drop p s)) z, run-length inLine (drop p s)))))))
 
 -- a word without the bytes that end a run stands in the run where it stands in the text
@@ -117,10 +144,6 @@ module _ (s : List ℕ) (i : ℕ) where
   pub arrow-short : length s < i + 3 → startsWith (ascii "-->") (drop i s) ≡ false
   arrow-short l = starts-short (ascii "-->") (drop i s) (omega (arith, length-drop i s))
 
--- the bytes of the line that begins at a place
-abbrev pub lineAt : List ℕ → ℕ → List ℕ
-lineAt s p = run inLine (drop p s)
-
 pub line-stop : (s : List ℕ) (i : ℕ) → i ≤ length s → (ltb i (length s) && inLine (getD s i 0)) ≡ false → lineAt s i ≡ []
 line-stop s i l e =
     by-test (ltb i (length s))
@@ -129,7 +152,7 @@ line-stop s i l e =
 
 -- collecting, at the line that begins at a place
 module _ (s : List ℕ) (p : ℕ) (h : Head) (e : ℕ) (l : p ≤ length s) where
-  at-line : collectFrom h e (linesFrom s p) ≡ collectFrom h e (record { place = p; bytes = lineAt s p } ∷ linesFrom s (p + length (lineAt s p) + 1))
+  at-line : collectFrom h e (linesFrom s p) ≡ collectFrom h e (lineFrom s p ∷ linesFrom s (p + length (lineAt s p) + 1))
   at-line = ap (collectFrom h e) (lines-next s p (p + length (lineAt s p)) l refl)
 
   pub collect-empty : lineAt s p ≡ [] → collectFrom h e (linesFrom s p) ≡ record { why = Why.EmptyLine; at = p; to = e; head = h }

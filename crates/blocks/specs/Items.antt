@@ -1,7 +1,7 @@
 -- A collected block by its places, and what it means. `proofs/BlockLaws.antt` proves that this is what `format` says.
 use Prim.Native.Nat.{ℕ, _+_, _-_, _≤_, _<_}
 use mathlib.Core.Path.{_≡_}
-use mathlib.Core.Bool.{Bool, cond}
+use mathlib.Core.Bool.{Bool, true, false, cond}
 use mathlib.Core.List.{List, [], _∷_}
 use mathlib.Core.Option.{Option, none, some}
 use lib.Dec.{eqb}
@@ -11,7 +11,7 @@ use Rattle.format.specs.Texts.{Part, nowhere}
 use Rattle.format.specs.RegionSettings.{regionSettings, regionIs}
 use Rattle.format.specs.TimingLines.{Timing, timingLine}
 use Rattle.format.specs.Lines.{split}
-use Rattle.format.specs.Blocks.{between, blocksFrom, bytesOf}
+use Rattle.format.specs.Blocks.{Line, between, blocksFrom, bytesOf}
 use Rattle.format.specs.CueSettings.{spanIs, noSpan, settingsIs}
 use Rattle.format.specs.Lists.{Cue, Item, nothing, cue, style, region, regionOf, isWord, meaning}
 use Rattle.format.specs.Replacing.{firstNumber}
@@ -20,7 +20,7 @@ use Rattle.values.specs.Tokens.{spanTo}
 use Rattle.timing.specs.declared.timing_line.TimingLine.{TimingLine}
 use Rattle.timing.specs.declared.timing_line.TimingLine.the-variants as TimingLine
 use Rattle.regions.specs.declared.RegionTaken.{RegionTaken}
-use Rattle.blocks.specs.Collecting.{linesFrom}
+use Rattle.blocks.specs.Collecting.{lineEnds, linesFrom}
 use Rattle.blocks.specs.declared.collecting.Stop.{Stop}
 use Rattle.blocks.specs.declared.Next.{Next}
 use Rattle.blocks.specs.declared.Next.the-variants as Next
@@ -65,10 +65,10 @@ meaningAt seen s from st =
 
 -- a block of the text that begins at a place, and those behind it
 pub record BlockAt (s : List ℕ) (from : ℕ) (st : Stop) : Type 0 where
-  pub lines : List Part
+  pub lines : List Line
   pub divides : blocksFrom between (linesFrom s from) ≡ lines ∷ blocksFrom between (linesFrom s (st .at))
   pub meant : (seen : Bool) → meaning seen lines ≡ meaningAt seen s from st
-  pub begins : firstNumber lines ≡ from
+  pub begins : firstNumber lines ≡ lineEnds (take from s)
   pub covers : split (part s from (st .to) .bytes) ≡ bytesOf lines
   pub starts : from < st .head .first
   pub first-end : st .head .first ≤ st .head .end
@@ -95,6 +95,14 @@ itemIs nothing = Read.Nothing
 itemIs (cue c over) = cond over Read.Over (Read.Cue (cueIs c))
 itemIs (style text) = Read.Style (spanIs text)
 itemIs (region r over) = cond over Read.Over (Read.Region (regionIs r))
+
+-- is it a cue or a region with a number above its limit
+abbrev pub isOver : Made.Item → Bool
+isOver Read.Nothing = false
+isOver Read.Over = true
+isOver (Read.Cue c) = false
+isOver (Read.Style t) = false
+isOver (Read.Region r) = false
 
 abbrev pub behindSpan : ℕ → ℕ → Span
 behindSpan e to = cond (eqb e to) noSpan (spanTo (e + 1) to)

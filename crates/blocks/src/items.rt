@@ -13,7 +13,7 @@ ghost use Rattle.format.specs.Lists.{isWord};
 ghost use Rattle.format.specs.TimingLines.{timingLine};
 ghost use Rattle.values.specs.Tokens.{partOf};
 ghost use Rattle.timing.specs.TimingLines.{timingLineIs};
-ghost use Rattle.blocks.specs.Items.{part, behindSpan, timedIs, regionItem, definitionIs, meaningAt, itemIs};
+ghost use Rattle.blocks.specs.Items.{part, behindSpan, timedIs, regionItem, definitionIs, meaningAt, itemIs, isOver};
 
 pub struct CueRead {
     pub id: Span,
@@ -32,6 +32,19 @@ pub enum Item {
     Cue(CueRead),
     Style(Span),
     Region(Region),
+}
+
+// Has a cue or a region a number above its limit.
+pub fn is_over(item: Item) -> bool
+    ensures { λ r. ⌜ r ≡ isOver item ⌝ }
+{
+    match item {
+        Item::Nothing => false,
+        Item::Over => true,
+        Item::Cue(_) => false,
+        Item::Style(_) => false,
+        Item::Region(_) => false,
+    }
 }
 
 // The lines behind one that ends at `end`, up to the block's end.

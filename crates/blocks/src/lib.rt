@@ -1,16 +1,38 @@
-// The blocks of a plain text, one after the other, and what each of them gives. Every function ends in linear time.
+// The signature and the blocks of a plain text, one after the other, and what each of them gives. Every function ends in linear time.
 use collecting::Head;
 use collecting::Stop;
 use values::bytes::Kind;
 ghost use mathlib.Core.Path.{_≡_};
 ghost use Prim.Native.Nat.{_≤_};
 ghost use lib.ListN.{length};
-ghost use Rattle.format.specs.Blocks.{between, blocksFrom, blocks};
+ghost use Rattle.format.specs.Blocks.{hasSignature, between, blocksFrom, blocks};
 ghost use Rattle.blocks.specs.Collecting.{linesFrom};
 ghost use Rattle.blocks.specs.Items.{NextIs};
 
 pub mod collecting;
 pub mod items;
+
+pub fn has_signature(s: &[u8]) -> bool
+    ensures { λ r. ⌜ r ≡ hasSignature (now (s .entry)) ⌝ }
+{
+    if s.len() < 6 {
+        return false;
+    }
+    if !values::bytes::same_bytes(&s[..6], b"WEBVTT") {
+        return false;
+    }
+    if s.len() == 6 {
+        return true;
+    }
+    let b = s[6];
+    if b == b' ' {
+        return true;
+    }
+    if b == b'\t' {
+        return true;
+    }
+    b == b'\n'
+}
 
 // Where the lines begin that stand behind the first line of a text and a header.
 pub fn past_header(s: &[u8]) -> usize

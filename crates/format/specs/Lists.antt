@@ -10,7 +10,7 @@ use Rattle.format.specs.Texts.{startsWith, all, Part, nowhere}
 use Rattle.format.specs.CueSettings.{CueSettings}
 use Rattle.format.specs.RegionSettings.{RegionValues, TakenRegion, regionSettings}
 use Rattle.format.specs.TimingLines.{Timing, timingLine}
-use Rattle.format.specs.Blocks.{holdsArrow, joined, blocks}
+use Rattle.format.specs.Blocks.{Line, linePart, holdsArrow, joined, blocks}
 
 pub record Cue : Type 0 where
   pub id : Part
@@ -27,7 +27,7 @@ pub data Item : Type 0 where
   region : (r : RegionValues) (over : Bool) → Item
 
 -- 11.4.1.3, 11.4.1.4: the cue of a timing line with its identifier and the lines behind it; "if the timing line fails, the block gives no cue"
-unfoldable pub cueOf : Part → List Part → Option Timing → Item
+unfoldable pub cueOf : Part → List Line → Option Timing → Item
 cueOf id ls none = nothing
 cueOf id ls (some t) =
     cue (record { id = id; start = t .start; end = t .end; settings = t .settings; text = joined ls }) (t .over)
@@ -42,7 +42,7 @@ isWord word l = startsWith word l && all white (drop (length word) l)
 
 -- 11.6.1: a block without a timing line, of a first line and others: "STYLE or REGION … on line 1, with a non-empty line 2 without `-->`,
 -- … but only while no cue has succeeded"
-unfoldable pub definition : Bool → Part → List Part → Item
+unfoldable pub definition : Bool → Line → List Line → Item
 definition seen first ls =
     cond
     seen
@@ -53,14 +53,14 @@ definition seen first ls =
     (cond (isWord (ascii "REGION") (first .bytes)) (regionOf (regionSettings (joined ls))) nothing))
 
 -- a block, given whether a cue has succeeded before it
-unfoldable pub meaning : Bool → List Part → Item
+unfoldable pub meaning : Bool → List Line → Item
 meaning seen [] = nothing
-meaning seen (first ∷ []) = cond (holdsArrow (first .bytes)) (cueOf nowhere [] (timingLine first)) nothing
+meaning seen (first ∷ []) = cond (holdsArrow (first .bytes)) (cueOf nowhere [] (timingLine (linePart first))) nothing
 meaning seen (first ∷ (second ∷ ls)) =
     cond
     (holdsArrow (first .bytes))
-    (cueOf nowhere (second ∷ ls) (timingLine first))
-    (cond (holdsArrow (second .bytes)) (cueOf first ls (timingLine second)) (definition seen first (second ∷ ls)))
+    (cueOf nowhere (second ∷ ls) (timingLine (linePart first)))
+    (cond (holdsArrow (second .bytes)) (cueOf (linePart first) ls (timingLine (linePart second))) (definition seen first (second ∷ ls)))
 
 unfoldable pub isCue : Item → Bool
 isCue nothing = false
@@ -68,13 +68,8 @@ isCue (cue c over) = true
 isCue (style text) = false
 isCue (region r over) = false
 
--- whether a cue has succeeded behind these blocks
-unfoldable pub succeeded : Bool → List (List Part) → Bool
-succeeded seen [] = seen
-succeeded seen (b ∷ bs) = succeeded (seen || isCue (meaning seen b)) bs
-
 -- 14: what the blocks give, one after the other
-unfoldable pub itemsFrom : Bool → List (List Part) → List Item
+unfoldable pub itemsFrom : Bool → List (List Line) → List Item
 itemsFrom seen [] = []
 itemsFrom seen (b ∷ bs) = meaning seen b ∷ itemsFrom (seen || isCue (meaning seen b)) bs
 

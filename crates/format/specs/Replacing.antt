@@ -1,5 +1,5 @@
 -- Document 01, "Replacing one cue": raw lines, a cue's own bytes, the cue asked for, the new file, what replacing answers, and demand 3.
-use Prim.Native.Nat.{ℕ, suc, _+_, _-_, _≤_}
+use Prim.Native.Nat.{ℕ, _+_, _-_, _≤_}
 use mathlib.Core.Path.{_≡_}
 use mathlib.Core.Bool.{Bool, true, false, cond, not, _&&_, _||_}
 use mathlib.Core.List.{List, [], _∷_, _++_, map}
@@ -7,11 +7,11 @@ use mathlib.Core.Option.{Option, none, some}
 use lib.Dec.{eqb, ltb}
 use lib.ListN.{length, getD, set, take, drop}
 use Rattle.format.specs.Bytes.{lf, cr}
-use Rattle.format.specs.Texts.{Part, startsWith, isEmpty, bytesAt}
+use Rattle.format.specs.Texts.{startsWith, isEmpty, bytesAt}
 use Rattle.format.specs.Plain.{plainText}
 use Rattle.format.specs.Lines.{split, join}
 use Rattle.format.specs.RegionSettings.{lastNamed}
-use Rattle.format.specs.Blocks.{hasSignature, behindSignature}
+use Rattle.format.specs.Blocks.{Line, hasSignature, blocks}
 use Rattle.format.specs.Lists.{Item, nothing, cue, style, region, meaning, isCue, items, lists, anyOver}
 use Rattle.format.specs.Rows.{ids, newCueEntry, newCueName}
 use Rattle.format.specs.Contents.{CueContents, Contents, contents, cueOfEntry}
@@ -61,29 +61,24 @@ rawStart raw n = length (rawBytes (take n (rawLines raw)))
 unfoldable pub rawEnd : List ℕ → ℕ → ℕ
 rawEnd raw n = rawStart raw n + length (getD (rawLines raw) n (emptyLine []) .bytes)
 
--- the lines of a plain text with their numbers in the part's place: "line n of the raw file is line n of the plain text"
-unfoldable pub numbered : ℕ → List (List ℕ) → List Part
-numbered n [] = []
-numbered n (l ∷ ls) = record { place = n; bytes = l } ∷ numbered (suc n) ls
-
 -- the blocks that give cues, one after the other
-unfoldable pub blockOfCue : Item → List Part → List (List Part)
+unfoldable pub blockOfCue : Item → List Line → List (List Line)
 blockOfCue nothing b = []
 blockOfCue (cue c over) b = b ∷ []
 blockOfCue (style text) b = []
 blockOfCue (region r over) b = []
 
-unfoldable pub cueBlocksFrom : Bool → List (List Part) → List (List Part)
+unfoldable pub cueBlocksFrom : Bool → List (List Line) → List (List Line)
 cueBlocksFrom seen [] = []
 cueBlocksFrom seen (b ∷ bs) = blockOfCue (meaning seen b) b ++ cueBlocksFrom (seen || isCue (meaning seen b)) bs
 
-unfoldable pub cueBlocks : List ℕ → List (List Part)
-cueBlocks s = cueBlocksFrom false (behindSignature (numbered 0 (split s)))
+unfoldable pub cueBlocks : List ℕ → List (List Line)
+cueBlocks s = cueBlocksFrom false (blocks s)
 
 -- the numbers of a cue's first line (identifier or timing line) and of its last (the timing line where its text is empty)
-unfoldable pub firstNumber : List Part → ℕ
+unfoldable pub firstNumber : List Line → ℕ
 firstNumber [] = 0
-firstNumber (l ∷ ls) = l .place
+firstNumber (l ∷ ls) = l .number
 
 unfoldable pub firstLine : List ℕ → ℕ → ℕ
 firstLine s number = firstNumber (getD (cueBlocks s) number [])
@@ -91,7 +86,7 @@ firstLine s number = firstNumber (getD (cueBlocks s) number [])
 unfoldable pub lastLine : List ℕ → ℕ → ℕ
 lastLine s number = firstLine s number + (length (getD (cueBlocks s) number []) - 1)
 
--- a cue's own bytes: from here up to there in the raw file
+-- a cue's own bytes: from here up to there in the raw file; "line n of the raw file is line n of the plain text"
 unfoldable pub ownStart : List ℕ → ℕ → ℕ
 ownStart raw number = rawStart raw (firstLine (plainText raw) number)
 

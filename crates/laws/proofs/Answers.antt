@@ -55,7 +55,6 @@ file-made file room vs e =
 
 -- where a raw file was converted, its plain text stands at the room's start
 pub record Converts (raw : List ℕ) (n : ℕ) (room : List ℕ) : Type 0 where
-  pub size : length raw ≤ maxFile
   pub fits : n ≤ length room
   pub text : take n room ≡ plainText raw
 
@@ -71,7 +70,7 @@ converts raw before {n} {room} a e =
     let fitting = behind-test (ltb (length before) (length s)) 2 (length s ∷ []) (n ∷ []) _ (within .1) in
     let h : n ≡ length s = cc (fitting .1) in
     let stands : room ≡ placed s before = rw (← a) at e in
-    record { size = ltb-false maxFile (length raw) (within .0); fits = reaches s before room n stands h; text = front s before room n stands h }
+    record { fits = reaches s before room n stands h; text = front s before room n stands h }
 
 -- what the test of a text tells
 pub not-plain : (s : List ℕ) (i : ℕ) → plainnessIs (Plainness.NotPlainAt i) ≡ testing s → (ltb (firstNotPlain s) (length s) ≡ true) × (firstNotPlain s ≡ i)

@@ -2,17 +2,21 @@
 use mathlib.Core.Path.{_≡_, ap, sym, _∙_}
 use mathlib.Core.Bool.{true}
 use mathlib.Core.List.{List, [], _∷_, _++_, append-assoc}
-use Rattle.format.specs.Texts.{Part}
-use Rattle.format.specs.Blocks.{Collecting, between, stops, collected, ended, next, behind, blocksFrom}
+use Rattle.format.specs.Blocks.{Line, Collecting, between, stops, collected, ended, next, blocksFrom}
+
+-- where collecting stands after lines
+unfoldable pub behind : Collecting → List Line → Collecting
+behind st [] = st
+behind st (l ∷ ls) = behind (next st l) ls
 
 -- a line before which collecting stops begins as after an empty line
-pub blocks-stop : (st : Collecting) (l : Part) (ls : List Part) → stops st l ≡ true → blocksFrom st (l ∷ ls) ≡ collected st ++ blocksFrom between (l ∷ ls)
+pub blocks-stop : (st : Collecting) (l : Line) (ls : List Line) → stops st l ≡ true → blocksFrom st (l ∷ ls) ≡ collected st ++ blocksFrom between (l ∷ ls)
 unfolding blocksFrom ended next stops collected
 blocks-stop st l ls e = rw e
 
 -- a file divides where collecting stops
 pub cut :
-    (st : Collecting) (before : List Part) (l : Part) (bs : List Part)
+    (st : Collecting) (before : List Line) (l : Line) (bs : List Line)
     → stops (behind st before) l ≡ true
     → blocksFrom st (before ++ l ∷ bs) ≡ blocksFrom st before ++ blocksFrom between (l ∷ bs)
 unfolding blocksFrom behind

@@ -1,4 +1,4 @@
--- The contents of lists do not depend on places: setting every place to 0 commutes with reading.
+-- The contents of lists do not depend on places and line numbers: setting each of them to 0 commutes with reading.
 use Prim.Native.Nat.{ℕ, suc, _+_, _-_}
 use mathlib.Core.Path.{_≡_, refl, sym, ap, _∙_}
 use mathlib.Core.Bool.{Bool, true, false, cond, _||_, _&&_}
@@ -19,7 +19,7 @@ use Rattle.format.specs.RegionSettings.{setViewport, setScroll, namedRegion, re
 use Rattle.format.specs.Times.{Result, failed, got, milliseconds, overHours}
 use Rattle.format.specs.TimingLines.{Times, timings, withSettings, timingOf, timingLine}
 use Rattle.format.specs.Lines.{join}
-use Rattle.format.specs.Blocks.{holdsArrow, bytesOf, joined}
+use Rattle.format.specs.Blocks.{Line, linePart, holdsArrow, bytesOf, joined}
 use Rattle.format.specs.Lists.{Cue, Item, nothing, cue, style, region, cueOf, regionOf, isWord, definition, meaning, isCue, itemsFrom}
 use Rattle.format.specs.Lists.{Lists, into, listed, itemOver, anyOver}
 use Rattle.format.specs.Rows.{ids, regionFor}
@@ -29,12 +29,15 @@ use Rattle.format.specs.declared.settings.LineAlign.{LineAlign}
 use Rattle.format.specs.declared.settings.Align.{Align}
 use Rattle.format.specs.declared.settings.PositionAlign.{PositionAlign}
 
--- values with every place 0
-abbrev pub bare : Part → Part
+-- values with every place and every number 0
+abbrev bare : Part → Part
 bare l = record { place = 0; bytes = l .bytes }
 
-abbrev pub unplaced : List Part → List Part
-unplaced ls = map bare ls
+abbrev pub bareLine : Line → Line
+bareLine l = record { number = 0; place = 0; bytes = l .bytes }
+
+abbrev pub unplaced : List Line → List Line
+unplaced ls = map bareLine ls
 
 abbrev bareSettings : CueSettings → CueSettings
 bareSettings c = setRegion (bare (c .region)) c
@@ -53,21 +56,24 @@ alike : {A B : Type 0} (f : A → B) (t : Bool) {a b c d : A} → f a ≡ f c �
 alike f true p q = p
 alike f false p q = q
 
+abbrev partBytes : List Part → List (List ℕ)
+partBytes ts = map (λ t. t .bytes) ts
+
 -- a token's bytes do not depend on its place
-on-token-bytes : (p q b : ℕ) (ts us : List Part) → bytesOf ts ≡ bytesOf us → bytesOf (onToken p b ts) ≡ bytesOf (onToken q b us)
-unfolding onToken bytesOf
+on-token-bytes : (p q b : ℕ) (ts us : List Part) → partBytes ts ≡ partBytes us → partBytes (onToken p b ts) ≡ partBytes (onToken q b us)
+unfolding onToken
 on-token-bytes p q b [] [] e = refl
 on-token-bytes p q b [] (u ∷ us) e = cc
 on-token-bytes p q b (t ∷ ts) [] e = cc
 on-token-bytes p q b (t ∷ ts) (u ∷ us) e = cc
 
-token-bytes : (p q : ℕ) (x : List ℕ) → bytesOf (tokens p x) ≡ bytesOf (tokens q x)
-unfolding tokens beforeTokens bytesOf
+token-bytes : (p q : ℕ) (x : List ℕ) → partBytes (tokens p x) ≡ partBytes (tokens q x)
+unfolding tokens beforeTokens
 token-bytes p q [] = refl
 token-bytes p q (b ∷ x) =
     let e = token-bytes (suc p) (suc q) x in
-    alike bytesOf (white b) e
-    (alike bytesOf (inToken x) (on-token-bytes p q b (tokens (suc p) x) (tokens (suc q) x) e) (ap (λ r. (b ∷ []) ∷ r) e))
+    alike partBytes (white b) e
+    (alike partBytes (inToken x) (on-token-bytes p q b (tokens (suc p) x) (tokens (suc q) x) e) (ap (λ r. (b ∷ []) ∷ r) e))
 
 -- settings that differ in the region's place alone are alike
 alike-settings : (c d : CueSettings) → bareSettings c ≡ bareSettings d → bareTaken (taken c) ≡ bareTaken (taken d)
@@ -147,13 +153,13 @@ cueBy s (x ∷ xs) =
     let r = bareTaken (cueSetting (record { place = 0; bytes = x }) (s .settings)) in
     cueBy (record { settings = r .settings; over = s .over || r .over }) xs
 
-cue-by : (s : Taken) (ts : List Part) → bareTaken (settingsFrom s ts) ≡ cueBy (bareTaken s) (bytesOf ts)
-unfolding bareTaken cueBy settingsFrom bytesOf
+cue-by : (s : Taken) (ts : List Part) → bareTaken (settingsFrom s ts) ≡ cueBy (bareTaken s) (partBytes ts)
+unfolding bareTaken cueBy settingsFrom
 cue-by s [] = refl
 cue-by s (t ∷ ts) =
     let r = cueSetting t (s .settings) in
     cue-by (record { settings = r .settings; over = s .over || r .over }) ts
-    ∙ ap (λ r. cueBy (record { settings = r .settings; over = s .over || r .over }) (bytesOf ts)) (cue-setting (s .settings) t)
+    ∙ ap (λ r. cueBy (record { settings = r .settings; over = s .over || r .over }) (partBytes ts)) (cue-setting (s .settings) t)
 
 cue-settings :
     (p q : ℕ) (x : List ℕ)
@@ -217,13 +223,13 @@ regionBy s (x ∷ xs) =
     let r = bareRegion (regionSetting (record { place = 0; bytes = x }) (s .region)) in
     regionBy (record { region = r .region; over = s .over || r .over }) xs
 
-region-by : (s : TakenRegion) (ts : List Part) → bareRegion (regionFrom s ts) ≡ regionBy (bareRegion s) (bytesOf ts)
-unfolding bareRegion regionBy regionFrom bytesOf
+region-by : (s : TakenRegion) (ts : List Part) → bareRegion (regionFrom s ts) ≡ regionBy (bareRegion s) (partBytes ts)
+unfolding bareRegion regionBy regionFrom
 region-by s [] = refl
 region-by s (t ∷ ts) =
     let r = regionSetting t (s .region) in
     region-by (record { region = r .region; over = s .over || r .over }) ts
-    ∙ ap (λ r. regionBy (record { region = r .region; over = s .over || r .over }) (bytesOf ts)) (region-setting (s .region) t)
+    ∙ ap (λ r. regionBy (record { region = r .region; over = s .over || r .over }) (partBytes ts)) (region-setting (s .region) t)
 
 region-settings :
     (p q : ℕ) (x : List ℕ)
@@ -243,12 +249,12 @@ bareItem (cue c over) = cue (bareCue c) over
 bareItem (style text) = style (bare text)
 bareItem (region r over) = region (bareValues r) over
 
-bytes-unplaced : (ls : List Part) → bytesOf (unplaced ls) ≡ bytesOf ls
+bytes-unplaced : (ls : List Line) → bytesOf (unplaced ls) ≡ bytesOf ls
 unfolding bytesOf
 bytes-unplaced [] = refl
 bytes-unplaced (l ∷ ls) = ap (λ r. l .bytes ∷ r) (bytes-unplaced ls)
 
-joined-unplaced : (ls : List Part) → joined (unplaced ls) .bytes ≡ joined ls .bytes
+joined-unplaced : (ls : List Line) → joined (unplaced ls) .bytes ≡ joined ls .bytes
 unfolding joined bytesOf
 joined-unplaced [] = refl
 joined-unplaced (l ∷ ls) = ap (λ r. join (l .bytes ∷ r)) (bytes-unplaced ls)
@@ -267,7 +273,7 @@ cueWith id t s text =
     (overHours (t .start) || overHours (t .end) || s .over)
 
 cue-of :
-    (id line : Part) (ls : List Part) (r : Result Times)
+    (id line : Part) (ls : List Line) (r : Result Times)
     → bareItem (cueOf (bare id) (unplaced ls) (timingOf (bare line) r)) ≡ bareItem (cueOf id ls (timingOf line r))
 unfolding bareItem cueOf timingOf withSettings bareTaken cueWith
 cue-of id line ls failed = refl
@@ -286,14 +292,14 @@ style-of : (p q : Part) → p .bytes ≡ q .bytes → bareItem (style p) ≡ bar
 unfolding bareItem
 style-of p q e = ap (λ x. style (record { place = 0; bytes = x })) e
 
-meaning-bare : (seen : Bool) (b : List Part) → bareItem (meaning seen (unplaced b)) ≡ bareItem (meaning seen b)
+meaning-bare : (seen : Bool) (b : List Line) → bareItem (meaning seen (unplaced b)) ≡ bareItem (meaning seen b)
 unfolding meaning timingLine definition
 meaning-bare seen [] = refl
-meaning-bare seen (first ∷ []) = alike bareItem (holdsArrow (first .bytes)) (cue-of nowhere first [] (timings (first .bytes))) refl
+meaning-bare seen (first ∷ []) = alike bareItem (holdsArrow (first .bytes)) (cue-of nowhere (linePart first) [] (timings (first .bytes))) refl
 meaning-bare seen (first ∷ (second ∷ ls)) =
     let ls₂ = second ∷ ls in
-    alike bareItem (holdsArrow (first .bytes)) (cue-of nowhere first ls₂ (timings (first .bytes)))
-    (alike bareItem (holdsArrow (second .bytes)) (cue-of first second ls (timings (second .bytes)))
+    alike bareItem (holdsArrow (first .bytes)) (cue-of nowhere (linePart first) ls₂ (timings (first .bytes)))
+    (alike bareItem (holdsArrow (second .bytes)) (cue-of (linePart first) (linePart second) ls (timings (second .bytes)))
     (alike bareItem seen refl
     (alike bareItem (isWord (ascii "STYLE") (first .bytes)) (style-of (joined (unplaced ls₂)) (joined ls₂) (joined-unplaced ls₂))
     (alike bareItem (isWord (ascii "REGION") (first .bytes)) (region-of (joined (unplaced ls₂)) (joined ls₂) (joined-unplaced ls₂)) refl))))
@@ -306,11 +312,11 @@ tests-bare (cue c over) = (refl, refl)
 tests-bare (style text) = (refl, refl)
 tests-bare (region r over) = (refl, refl)
 
-pub isCue-unplaced : (seen : Bool) (b : List Part) → isCue (meaning seen (unplaced b)) ≡ isCue (meaning seen b)
+isCue-unplaced : (seen : Bool) (b : List Line) → isCue (meaning seen (unplaced b)) ≡ isCue (meaning seen b)
 isCue-unplaced seen b =
     sym (tests-bare (meaning seen (unplaced b)) .0) ∙ ap isCue (meaning-bare seen b) ∙ tests-bare (meaning seen b) .0
 
-items-bare : (seen : Bool) (bs : List (List Part)) → map bareItem (itemsFrom seen (map unplaced bs)) ≡ map bareItem (itemsFrom seen bs)
+items-bare : (seen : Bool) (bs : List (List Line)) → map bareItem (itemsFrom seen (map unplaced bs)) ≡ map bareItem (itemsFrom seen bs)
 unfolding itemsFrom
 items-bare seen [] = refl
 items-bare seen (b ∷ bs) =
@@ -372,30 +378,30 @@ over-items (i ∷ items) = rw (tests-bare i .1, over-items items)
 by-items :
     {A : Type 0} (f : List Item → A)
     → ((items : List Item) → f (map bareItem items) ≡ f items)
-    → (seen : Bool) (bs : List (List Part)) → f (itemsFrom seen (map unplaced bs)) ≡ f (itemsFrom seen bs)
+    → (seen : Bool) (bs : List (List Line)) → f (itemsFrom seen (map unplaced bs)) ≡ f (itemsFrom seen bs)
 by-items f e seen bs = sym (e (itemsFrom seen (map unplaced bs))) ∙ ap f (items-bare seen bs) ∙ e (itemsFrom seen bs)
 
 pub contents-unplaced :
-    (seen : Bool) (bs : List (List Part))
+    (seen : Bool) (bs : List (List Line))
     → contents (listed (itemsFrom seen (map unplaced bs))) ≡ contents (listed (itemsFrom seen bs))
 contents-unplaced seen bs = by-items (λ i. contents (listed i)) contents-items seen bs
 
-pub over-unplaced : (seen : Bool) (bs : List (List Part)) → anyOver (itemsFrom seen (map unplaced bs)) ≡ anyOver (itemsFrom seen bs)
+pub over-unplaced : (seen : Bool) (bs : List (List Line)) → anyOver (itemsFrom seen (map unplaced bs)) ≡ anyOver (itemsFrom seen bs)
 over-unplaced seen bs = by-items anyOver over-items seen bs
 
 -- blocks with the same bytes are the same without their places
-placeless : List (List ℕ) → List Part
-placeless xs = map (λ x. record { place = 0; bytes = x }) xs
+placeless : List (List ℕ) → List Line
+placeless xs = map (λ x. record { number = 0; place = 0; bytes = x }) xs
 
-unplaced-by : (ls : List Part) → placeless (bytesOf ls) ≡ unplaced ls
+unplaced-by : (ls : List Line) → placeless (bytesOf ls) ≡ unplaced ls
 unfolding placeless bytesOf
 unplaced-by [] = refl
-unplaced-by (l ∷ ls) = ap (λ r. bare l ∷ r) (unplaced-by ls)
+unplaced-by (l ∷ ls) = ap (λ r. bareLine l ∷ r) (unplaced-by ls)
 
 by-bytes :
     {A : Type 0} (f : List Item → A)
     → ((items : List Item) → f (map bareItem items) ≡ f items)
-    → (seen : Bool) (bs cs : List (List Part))
+    → (seen : Bool) (bs cs : List (List Line))
     → map bytesOf bs ≡ map bytesOf cs
     → f (itemsFrom seen bs) ≡ f (itemsFrom seen cs)
 by-bytes f e seen bs cs h =
@@ -404,11 +410,11 @@ by-bytes f e seen bs cs h =
     sym (by-items f e seen bs) ∙ ap (λ b. f (itemsFrom seen b)) k ∙ by-items f e seen cs
 
 pub contents-same :
-    (seen : Bool) (bs cs : List (List Part))
+    (seen : Bool) (bs cs : List (List Line))
     → map bytesOf bs ≡ map bytesOf cs
     → contents (listed (itemsFrom seen bs)) ≡ contents (listed (itemsFrom seen cs))
 contents-same seen bs cs h = by-bytes (λ i. contents (listed i)) contents-items seen bs cs h
 
 pub over-same :
-    (seen : Bool) (bs cs : List (List Part)) → map bytesOf bs ≡ map bytesOf cs → anyOver (itemsFrom seen bs) ≡ anyOver (itemsFrom seen cs)
+    (seen : Bool) (bs cs : List (List Line)) → map bytesOf bs ≡ map bytesOf cs → anyOver (itemsFrom seen bs) ≡ anyOver (itemsFrom seen cs)
 over-same seen bs cs h = by-bytes anyOver over-items seen bs cs h

@@ -5,11 +5,16 @@ use mathlib.Core.List.{List, [], _∷_, _++_}
 use mathlib.Core.Option.{Option, none, some}
 use Rattle.format.specs.Texts.{Part, nowhere}
 use Rattle.format.specs.TimingLines.{Timing, timingLine}
-use Rattle.format.specs.Blocks.{holdsArrow}
-use Rattle.format.specs.Lists.{Item, nothing, cue, style, region, cueOf, definition, meaning, isCue, succeeded, itemsFrom, Lists, into, listed}
+use Rattle.format.specs.Blocks.{Line, linePart, holdsArrow}
+use Rattle.format.specs.Lists.{Item, nothing, cue, style, region, cueOf, definition, meaning, isCue, itemsFrom, Lists, into, listed}
+
+-- whether a cue has succeeded after these blocks
+unfoldable pub succeeded : Bool → List (List Line) → Bool
+succeeded seen [] = seen
+succeeded seen (b ∷ bs) = succeeded (seen || isCue (meaning seen b)) bs
 
 pub items-append :
-    (seen : Bool) (bs cs : List (List Part)) → itemsFrom seen (bs ++ cs) ≡ itemsFrom seen bs ++ itemsFrom (succeeded seen bs) cs
+    (seen : Bool) (bs cs : List (List Line)) → itemsFrom seen (bs ++ cs) ≡ itemsFrom seen bs ++ itemsFrom (succeeded seen bs) cs
 unfolding itemsFrom succeeded
 items-append seen [] cs = refl
 items-append seen (b ∷ bs) cs = ap (λ r. meaning seen b ∷ r) (items-append (seen || isCue (meaning seen b)) bs cs)
@@ -21,7 +26,7 @@ isDefinition (cue c over) = false
 isDefinition (style text) = true
 isDefinition (region r over) = true
 
-cue-defines-none : (id : Part) (ls : List Part) (t : Option Timing) → isDefinition (cueOf id ls t) ≡ false
+cue-defines-none : (id : Part) (ls : List Line) (t : Option Timing) → isDefinition (cueOf id ls t) ≡ false
 unfolding isDefinition cueOf
 cue-defines-none id ls none = refl
 cue-defines-none id ls (some t) = refl
@@ -31,20 +36,20 @@ either-none true a b p q = p
 either-none false a b p q = q
 
 -- once a cue has succeeded, no block is a style or a region
-pub no-definition-behind : (b : List Part) → isDefinition (meaning true b) ≡ false
+pub no-definition-behind : (b : List Line) → isDefinition (meaning true b) ≡ false
 unfolding meaning definition isDefinition
 no-definition-behind [] = refl
 no-definition-behind (first ∷ []) =
-    either-none (holdsArrow (first .bytes)) (cueOf nowhere [] (timingLine first)) nothing (cue-defines-none nowhere [] (timingLine first)) refl
+    either-none (holdsArrow (first .bytes)) (cueOf nowhere [] (timingLine (linePart first))) nothing (cue-defines-none nowhere [] (timingLine (linePart first))) refl
 no-definition-behind (first ∷ (second ∷ ls)) =
-    let timed = cueOf first ls (timingLine second) in
+    let timed = cueOf (linePart first) ls (timingLine (linePart second)) in
     let rest = cond (holdsArrow (second .bytes)) timed nothing in
     either-none
     (holdsArrow (first .bytes))
-    (cueOf nowhere (second ∷ ls) (timingLine first))
+    (cueOf nowhere (second ∷ ls) (timingLine (linePart first)))
     rest
-    (cue-defines-none nowhere (second ∷ ls) (timingLine first))
-    (either-none (holdsArrow (second .bytes)) timed nothing (cue-defines-none first ls (timingLine second)) refl)
+    (cue-defines-none nowhere (second ∷ ls) (timingLine (linePart first)))
+    (either-none (holdsArrow (second .bytes)) timed nothing (cue-defines-none (linePart first) ls (timingLine (linePart second))) refl)
 
 no-region : (i : Item) (l : Lists) → isDefinition i ≡ false → into i l .regions ≡ l .regions
 unfolding isDefinition into
@@ -54,7 +59,7 @@ no-region (style text) l e = absurd (true≢false e)
 no-region (region r over) l e = absurd (true≢false e)
 
 -- regions never come after a cue
-pub no-regions-behind : (bs : List (List Part)) → listed (itemsFrom true bs) .regions ≡ []
+pub no-regions-behind : (bs : List (List Line)) → listed (itemsFrom true bs) .regions ≡ []
 unfolding itemsFrom listed
 no-regions-behind [] = refl
 no-regions-behind (b ∷ bs) =

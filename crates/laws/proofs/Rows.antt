@@ -14,7 +14,7 @@ use Rattle.format.specs.Texts.{Part, nowhere, isEmpty, bytesAt}
 use Rattle.format.specs.Lines.{split, before, onFirst}
 use Rattle.format.specs.CueSettings.{spanIs}
 use Rattle.format.specs.RegionSettings.{RegionValues, lastNamed, regionIs}
-use Rattle.format.specs.Blocks.{linesAt, Collecting, between, header, inside, stops, begin, goOn, collected, ended, next, blocksFrom, behindSignature, blocks}
+use Rattle.format.specs.Blocks.{Line as TextLine, linesAt, Collecting, between, header, inside, stops, begin, goOn, collected, ended, next, blocksFrom, behindSignature, blocks}
 use Rattle.format.specs.Lists.{Cue, Item, nothing, cue, style, region, meaning, isCue, itemsFrom, items, Lists, into, listed, lists}
 use Rattle.format.specs.Rows.{directionOf, lineOf, lineAlignOf, positionOf, positionAlignOf, alignOf, regionIndexOf, scrollOf, directionWord, lineWord, lineNumberWord, snapWord, lineAlignWord, positionWord, positionNumberWord, positionAlignWord, alignWord, regionWord, scrollWord, greatestWord}
 use Rattle.format.specs.Rows.{word, cueEntryWith, cueWords, regionWords, styleWords, cueEntry, regionEntry, styleEntry, regionFor, entryIs, ids, indexIs, cueRows, regionRows, styleRows}
@@ -161,22 +161,22 @@ split-length (b ∷ s) =
     first [] = omega arith
     first (l ∷ ls) = omega arith
 
-lines-length : (p : ℕ) (ls : List (List ℕ)) → length (linesAt p ls) ≡ length ls
+lines-length : (n p : ℕ) (ls : List (List ℕ)) → length (linesAt n p ls) ≡ length ls
 unfolding linesAt
-lines-length p [] = refl
-lines-length p (l ∷ ls) = ap suc (lines-length (p + suc (length l)) ls)
+lines-length n p [] = refl
+lines-length n p (l ∷ ls) = ap suc (lines-length (suc n) (p + suc (length l)) ls)
 
-begin-length : (l : Part) → length (collected (begin l)) ≤ 1
+begin-length : (l : TextLine) → length (collected (begin l)) ≤ 1
 unfolding begin collected
 begin-length l = by-test (isEmpty (l .bytes)) (λ y. rw y (omega arith)) (λ n. rw n (omega arith))
 
-on-length : (st : Collecting) (l : Part) → length (collected (goOn st l)) ≤ suc (length (collected st))
+on-length : (st : Collecting) (l : TextLine) → length (collected (goOn st l)) ≤ suc (length (collected st))
 unfolding goOn collected
 on-length between l = begin-length l
 on-length header l = omega arith
 on-length (inside ls) l = omega arith
 
-blocks-length : (st : Collecting) (ls : List Part) → length (blocksFrom st ls) ≤ length (collected st) + length ls
+blocks-length : (st : Collecting) (ls : List TextLine) → length (blocksFrom st ls) ≤ length (collected st) + length ls
 unfolding blocksFrom ended next
 blocks-length st [] = omega arith
 blocks-length st (l ∷ ls) =
@@ -191,7 +191,7 @@ into-length (cue c over) l = omega arith
 into-length (style text) l = omega arith
 into-length (region r over) l = omega arith
 
-items-length : (seen : Bool) (bs : List (List Part)) → length (listed (itemsFrom seen bs) .regions) ≤ length bs
+items-length : (seen : Bool) (bs : List (List TextLine)) → length (listed (itemsFrom seen bs) .regions) ≤ length bs
 unfolding itemsFrom listed
 items-length seen [] = omega arith
 items-length seen (b ∷ bs) =
@@ -200,9 +200,9 @@ items-length seen (b ∷ bs) =
 
 regions-length : (s : List ℕ) → length (lists s .regions) ≤ suc (length s)
 unfolding lists items blocks behindSignature collected
-regions-length s = omega (arith, items-length false (blocks s), few (linesAt 0 (split s)), lines-length 0 (split s), split-length s)
+regions-length s = omega (arith, items-length false (blocks s), few (linesAt 0 0 (split s)), lines-length 0 0 (split s), split-length s)
   where
-    few : (ls : List Part) → length (behindSignature ls) ≤ length ls
+    few : (ls : List TextLine) → length (behindSignature ls) ≤ length ls
     few [] = omega arith
     few (l ∷ ls) = omega (arith, blocks-length header ls)
 

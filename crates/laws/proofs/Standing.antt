@@ -17,8 +17,8 @@ use Rattle.format.specs.Tokens.{inToken, onToken, beforeTokens, tokens, nameOf,
 use Rattle.format.specs.CueSettings.{CueSettings, Taken, setRegion, direction, setVertical, setLine, lineAlign, linePercentage, lineCounted}
 use Rattle.format.specs.CueSettings.{lineSetting, setPosition, positionAlign, positionOf, positionSetting, setSize, sizeOf, setAlign, named}
 use Rattle.format.specs.CueSettings.{cueSetting, settingsFrom, cueSettings, isHorizontal, taken, openingSettings}
-use Rattle.format.specs.declared.settings.Line.{Line}
-use Rattle.format.specs.declared.settings.Line.the-variants as Line
+use Rattle.format.specs.declared.settings.Line.{Line as LineSetting}
+use Rattle.format.specs.declared.settings.Line.the-variants as LineSetting
 use Rattle.format.specs.declared.settings.LineAlign.{LineAlign}
 use Rattle.format.specs.declared.settings.PositionAlign.{PositionAlign}
 use Rattle.format.specs.RegionSettings.{RegionValues, TakenRegion, setId, setWidth, setLines, point, setAnchor, setViewport, setScroll}
@@ -27,7 +27,7 @@ use Rattle.format.specs.Times.{Result, failed, got, onGot, Step, _>>=_, holds, 
 use Rattle.format.specs.Times.{timestamp}
 use Rattle.format.specs.TimingLines.{skipWhite, arrow, Times, arrowAndEnd, timings, Timing, withSettings, timingOf, timingLine}
 use Rattle.format.specs.Lines.{endedLines, join}
-use Rattle.format.specs.Blocks.{linesAt, holdsArrow, Collecting, between, header, inside, stops, begin, goOn, collected, ended, next}
+use Rattle.format.specs.Blocks.{Line, linesAt, linePart, holdsArrow, Collecting, between, header, inside, stops, begin, goOn, collected, ended, next}
 use Rattle.format.specs.Blocks.{blocksFrom, behindSignature, blocks, bytesOf, joined}
 use Rattle.format.specs.Lists.{Cue, Item, nothing, cue, style, region, cueOf, regionOf, isWord, definition, meaning, isCue, itemsFrom}
 use Rattle.format.specs.Lists.{items, Lists, into, listed, lists}
@@ -127,10 +127,10 @@ module _ (s : List ℕ) where
   stands-value t h = rw (behind-at colon (t .bytes)) (stands-drop s (t .place) (suc (length (beforeFirst colon (t .bytes)))) (t .bytes) h)
 
 -- a line that is not minus zero
-abbrev pub Signed : Line → Type 0
-Signed Line.Auto = Unit
-Signed (Line.At false n) = Unit
-Signed (Line.At true n) = 0 < n
+abbrev pub Signed : LineSetting → Type 0
+Signed LineSetting.Auto = Unit
+Signed (LineSetting.At false n) = Unit
+Signed (LineSetting.At true n) = 0 < n
 
 -- a setting leaves a cue's region as it was, takes it away, or puts its value there
 module _ (P : Part → Type 0) (at-nowhere : P nowhere) where
@@ -205,11 +205,11 @@ module _ (P : Part → Type 0) (at-nowhere : P nowhere) where
       region-settings (record { region = r .region; over = s .over || r .over }) ts (v .1) (region-setting t (s .region) (v .0) h)
 
 -- no setting makes a line minus zero
-line-signed : (n : LineNumber) → Signed (Line.At (isNegative n) (millionths (n .size)))
+line-signed : (n : LineNumber) → Signed (LineSetting.At (isNegative n) (millionths (n .size)))
 unfolding isNegative
 line-signed n = go (n .minus)
   where
-    go : (minus : Bool) → Signed (Line.At (minus && ltb 0 (millionths (n .size))) (millionths (n .size)))
+    go : (minus : Bool) → Signed (LineSetting.At (minus && ltb 0 (millionths (n .size))) (millionths (n .size)))
     go true = by-test (ltb 0 (millionths (n .size))) (λ y. rw y (ltb-true 0 (millionths (n .size)) y)) (λ z. rw z tt)
     go false = tt
 
@@ -407,19 +407,19 @@ unfolding timingLine
 stands-timing s line t h e = timing-of s line t (timings (line .bytes)) (keeps-timings .at (line .bytes)) h e
 
 -- lines that follow each other: from each of them on, they stand as one part
-abbrev pub Follow : List ℕ → List Part → Type 0
+abbrev pub Follow : List ℕ → List Line → Type 0
 Follow s [] = Unit
 Follow s (l ∷ ls) = Stands s (joined (l ∷ ls)) × Follow s ls
 
-pub bytes-append : (a b : List Part) → bytesOf (a ++ b) ≡ bytesOf a ++ bytesOf b
+pub bytes-append : (a b : List Line) → bytesOf (a ++ b) ≡ bytesOf a ++ bytesOf b
 unfolding bytesOf
 bytes-append [] b = refl
 bytes-append (l ∷ a) b = ap (λ r. l .bytes ∷ r) (bytes-append a b)
 
-pub bytes-lines : (p : ℕ) (ls : List (List ℕ)) → bytesOf (linesAt p ls) ≡ ls
+pub bytes-lines : (n p : ℕ) (ls : List (List ℕ)) → bytesOf (linesAt n p ls) ≡ ls
 unfolding bytesOf linesAt
-bytes-lines p [] = refl
-bytes-lines p (l ∷ ls) = ap (λ r. l ∷ r) (bytes-lines (p + suc (length l)) ls)
+bytes-lines n p [] = refl
+bytes-lines n p (l ∷ ls) = ap (λ r. l ∷ r) (bytes-lines (suc n) (p + suc (length l)) ls)
 
 pub ended-append : (a b : List (List ℕ)) → endedLines (a ++ b) ≡ endedLines a ++ endedLines b
 unfolding endedLines
@@ -427,7 +427,7 @@ ended-append [] b = refl
 ended-append (l ∷ a) b =
     ap (λ r. lf ∷ (l ++ r)) (ended-append a b) ∙ ap (λ r. lf ∷ r) (sym (append-assoc l (endedLines a) (endedLines b)))
 
-join-append : (l : List ℕ) (a b : List Part) → join (l ∷ bytesOf (a ++ b)) ≡ join (l ∷ bytesOf a) ++ endedLines (bytesOf b)
+join-append : (l : List ℕ) (a b : List Line) → join (l ∷ bytesOf (a ++ b)) ≡ join (l ∷ bytesOf a) ++ endedLines (bytesOf b)
 unfolding join
 join-append l a b =
     ap (λ r. l ++ endedLines r) (bytes-append a b)
@@ -435,39 +435,39 @@ join-append l a b =
     ∙ sym (append-assoc l (endedLines (bytesOf a)) (endedLines (bytesOf b)))
 
 -- the lines that a block being collected has so far
-linesIn : Collecting → List Part
+linesIn : Collecting → List Line
 linesIn between = []
 linesIn header = []
 linesIn (inside ls) = ls
 
 module _ (s : List ℕ) where
-  follow-joined : (ls : List Part) → Follow s ls → Stands s (joined ls)
+  follow-joined : (ls : List Line) → Follow s ls → Stands s (joined ls)
   unfolding joined
   follow-joined [] h = stands-nowhere s
   follow-joined (l ∷ ls) h = h .0
 
-  follow-line : (l : Part) (ls : List Part) → Follow s (l ∷ ls) → Stands s l
+  follow-line : (l : Line) (ls : List Line) → Follow s (l ∷ ls) → Stands s (linePart l)
   unfolding joined bytesOf join
   follow-line l ls h = stands-front s (l .place) (l .bytes) (endedLines (bytesOf ls)) (h .0)
 
-  follow-front : (a b : List Part) → Follow s (a ++ b) → Follow s a
+  follow-front : (a b : List Line) → Follow s (a ++ b) → Follow s a
   unfolding joined bytesOf
   follow-front [] b h = tt
   follow-front (l ∷ a) b h =
       let joins = join-append (l .bytes) a b in
       (stands-front s (l .place) (join (l .bytes ∷ bytesOf a)) (endedLines (bytesOf b)) (rw joins at (h .0)), follow-front a b (h .1))
 
-  follow-back : (a b : List Part) → Follow s (a ++ b) → Follow s b
+  follow-back : (a b : List Line) → Follow s (a ++ b) → Follow s b
   follow-back [] b h = h
   follow-back (l ∷ a) b h = follow-back a b (h .1)
 
-  follow-lines : (p : ℕ) (l : List ℕ) (ls : List (List ℕ)) → StandsAt s p (join (l ∷ ls)) → Follow s (linesAt p (l ∷ ls))
+  follow-lines : (n p : ℕ) (l : List ℕ) (ls : List (List ℕ)) → StandsAt s p (join (l ∷ ls)) → Follow s (linesAt n p (l ∷ ls))
   unfolding joined bytesOf linesAt join endedLines
-  follow-lines p l [] h = (h, tt)
-  follow-lines p l (m ∷ ls) h =
+  follow-lines n p l [] h = (h, tt)
+  follow-lines n p l (m ∷ ls) h =
       let e : p + length l + 1 ≡ p + suc (length l) = omega arith in
       let rest = stands-back s (p + length l) (lf ∷ []) (m ++ endedLines ls) (stands-back s p l (lf ∷ (m ++ endedLines ls)) h) in
-      (rw (bytes-lines (p + suc (length l) + suc (length m)) ls) h, follow-lines (p + suc (length l)) m ls (rw e at rest))
+      (rw (bytes-lines (suc (suc n)) (p + suc (length l) + suc (length m)) ls) h, follow-lines (suc n) (p + suc (length l)) m ls (rw e at rest))
 
   -- a block's lines follow each other
   follow-collected : (st : Collecting) → Follow s (linesIn st) → All (Follow s) (collected st)
@@ -476,17 +476,17 @@ module _ (s : List ℕ) where
   follow-collected header h = tt
   follow-collected (inside ls) h = (h, tt)
 
-  follow-begin : (l : Part) (ls : List Part) → Follow s (l ∷ ls) → Follow s (linesIn (begin l) ++ ls)
+  follow-begin : (l : Line) (ls : List Line) → Follow s (l ∷ ls) → Follow s (linesIn (begin l) ++ ls)
   unfolding linesIn begin
   follow-begin l ls h = either (λ st. Follow s (linesIn st ++ ls)) (isEmpty (l .bytes)) (h .1) h
 
-  follow-on : (st : Collecting) (l : Part) (ls : List Part) → Follow s (linesIn st ++ l ∷ ls) → Follow s (linesIn (goOn st l) ++ ls)
+  follow-on : (st : Collecting) (l : Line) (ls : List Line) → Follow s (linesIn st ++ l ∷ ls) → Follow s (linesIn (goOn st l) ++ ls)
   unfolding linesIn goOn
   follow-on between l ls h = follow-begin l ls h
   follow-on header l ls h = h .1
   follow-on (inside ks) l ls h = rw (append-snoc ks l ls) h
 
-  follow-blocks : (st : Collecting) (ls : List Part) → Follow s (linesIn st ++ ls) → All (Follow s) (blocksFrom st ls)
+  follow-blocks : (st : Collecting) (ls : List Line) → Follow s (linesIn st ++ ls) → All (Follow s) (blocksFrom st ls)
   unfolding blocksFrom ended next
   follow-blocks st [] h = follow-collected st (follow-front (linesIn st) [] h)
   follow-blocks st (l ∷ ls) h =
@@ -500,8 +500,8 @@ module _ (s : List ℕ) where
   unfolding blocks behindSignature linesIn linesAt
   blocks-follow =
       let t = splits s in
-      let h = follow-lines 0 (t .first) (t .rest) (rw (t .joined) (take-length s)) in
-      rw (t .is) (follow-blocks header (linesAt (0 + suc (length (t .first))) (t .rest)) (h .1))
+      let h = follow-lines 0 0 (t .first) (t .rest) (rw (t .joined) (take-length s)) in
+      rw (t .is) (follow-blocks header (linesAt 1 (0 + suc (length (t .first))) (t .rest)) (h .1))
 
   -- so the parts of what it gives stand
   pub record CueStands (c : Cue) : Type 0 where
@@ -518,7 +518,7 @@ module _ (s : List ℕ) where
   ItemStands (region r over) = Stands s (r .id)
 
   cue-stands :
-      (id line : Part) (ls : List Part) (o : Option Timing)
+      (id line : Part) (ls : List Line) (o : Option Timing)
       → timingLine line ≡ o
       → Stands s id
       → Stands s line
@@ -529,24 +529,24 @@ module _ (s : List ℕ) where
   cue-stands id line ls (some t) e i l h =
       record { id = i; text = follow-joined ls h; region = stands-timing s line t l e; line = timing-signed line t (timings (line .bytes)) e }
 
-  meaning-stands : (seen : Bool) (b : List Part) → Follow s b → ItemStands (meaning seen b)
+  meaning-stands : (seen : Bool) (b : List Line) → Follow s b → ItemStands (meaning seen b)
   unfolding meaning definition regionOf
   meaning-stands seen [] h = tt
   meaning-stands seen (first ∷ []) h =
       either ItemStands (holdsArrow (first .bytes))
-      (cue-stands nowhere first [] (timingLine first) refl (stands-nowhere s) (follow-line first [] h) tt) tt
+      (cue-stands nowhere (linePart first) [] (timingLine (linePart first)) refl (stands-nowhere s) (follow-line first [] h) tt) tt
   meaning-stands seen (first ∷ (second ∷ ls)) h =
       let ls₂ = second ∷ ls in
       let one = follow-line first ls₂ h in
       either ItemStands (holdsArrow (first .bytes))
-      (cue-stands nowhere first ls₂ (timingLine first) refl (stands-nowhere s) one (h .1))
+      (cue-stands nowhere (linePart first) ls₂ (timingLine (linePart first)) refl (stands-nowhere s) one (h .1))
       (either ItemStands (holdsArrow (second .bytes))
-      (cue-stands first second ls (timingLine second) refl one (follow-line second ls (h .1)) (h .1 .1))
+      (cue-stands (linePart first) (linePart second) ls (timingLine (linePart second)) refl one (follow-line second ls (h .1)) (h .1 .1))
       (either ItemStands seen tt
       (either ItemStands (isWord (ascii "STYLE") (first .bytes)) (follow-joined ls₂ (h .1))
       (either ItemStands (isWord (ascii "REGION") (first .bytes)) (stands-region s (joined ls₂) (follow-joined ls₂ (h .1))) tt))))
 
-  pub items-stand : (seen : Bool) (bs : List (List Part)) → All (Follow s) bs → All ItemStands (itemsFrom seen bs)
+  pub items-stand : (seen : Bool) (bs : List (List Line)) → All (Follow s) bs → All ItemStands (itemsFrom seen bs)
   unfolding itemsFrom
   items-stand seen [] h = tt
   items-stand seen (b ∷ bs) h = (meaning-stands seen b (h .0), items-stand (seen || isCue (meaning seen b)) bs (h .1))

@@ -1,46 +1,41 @@
--- Laws that this crate's proofs cite.
+-- The walk over a text's blocks: what has been found so far, with what is to come, is what the text has.
 use Prim.Native.Nat.{ℕ, suc, _+_, _-_, _≤_, _<_}
 use mathlib.Core.Path.{_≡_, refl, sym, ap, _∙_}
-use mathlib.Core.Bool.{Bool, true, false, cond, not, _||_}
-use mathlib.Core.List.{List, [], _∷_, _++_, map, map-map, map-append, append-assoc}
+use mathlib.Core.Bool.{Bool, true, false, cond, _||_, or-assoc}
+use mathlib.Core.List.{List, [], _∷_, _++_}
 use mathlib.Core.Option.{Option, none, some}
 use native.Mathlib.Omega.{arith}
 use lib.Dec.{eqb, ltb}
-use lib.ListN.{length, getD, take, drop, length-append, length-drop, length-map, List·getD-map}
-use lib.Seq.{take-append-seam, take-add, getD-drop, drop-drop}
-use borrow.Author.Tests.{lt-ltb, not-true}
+use lib.ListN.{length, getD, take, drop}
+use lib.Seq.{take-add, getD-drop, drop-drop}
+use borrow.Author.Tests.{eqb-true, eqb-false, ne-eqb, lt-ltb}
 use Rattle.format.specs.Bytes.{lf}
-use Rattle.format.specs.Texts.{Part, same}
-use Rattle.format.specs.Lines.{split, before, onFirst, join, endedLines}
+use Rattle.format.specs.Texts.{same}
+use Rattle.format.specs.Lines.{split, before, onFirst}
+use Rattle.format.specs.CueSettings.{noSpan}
 use Rattle.format.specs.RegionSettings.{laterOr, lastNamed}
-use Rattle.format.specs.Blocks.{linesAt, behindSignature, blocks}
-use Rattle.format.specs.Lists.{Item, nothing, cue, style, region, meaning, isCue, itemsFrom, items, Lists, into, listed, lists, itemOver, anyOver}
+use Rattle.format.specs.Blocks.{Line, hasSignature, blocks}
+use Rattle.format.specs.Lists.{Item, nothing, cue, style, region, isCue, itemsFrom, items, into, listed, lists, itemOver, anyOver}
 use Rattle.format.specs.Rows.{ids}
-use Rattle.format.specs.Replacing.{numbered, blockOfCue, cueBlocksFrom, cueBlocks, firstNumber, firstLine, lastLine, isThere, regionNames}
-use Rattle.laws.proofs.Tests.{by-test, and-left, and-right, or-true, or-false, or-first, or-second, absent}
-use Rattle.laws.proofs.Lines.{unbroken, splits}
-use Rattle.laws.proofs.Contents.{bare, isCue-unplaced}
+use Rattle.format.specs.Replacing.{blockOfCue, cueBlocksFrom, cueBlocks, firstNumber, firstLine, lastLine, isThere, regionNames}
+use Rattle.format.specs.declared.settings.Span.{Span}
+use Rattle.laws.proofs.Tests.{by-test, or-true, or-false}
+use Rattle.laws.proofs.Lines.{splits}
 use Rattle.laws.proofs.Standing.{All, ItemStands, items-stand, blocks-follow}
-use Rattle.replaced.proofs.Places.{moved, signature-moved}
-use Rattle.replaced.proofs.CueBlocks.{cues-into, length-bytes}
+use Rattle.replaced.proofs.CueBlocks.{length-bytes}
 use Rattle.blocks.specs.declared.collecting.Stop.{Stop}
+use Rattle.blocks.specs.declared.items.Item as Read
+use Rattle.blocks.specs.declared.items.Item.the-variants as Made
+use Rattle.blocks.specs.Collecting.{lineEnds}
 use Rattle.blocks.specs.Items.{meaningAt, BlockAt, NextAt, itemIs}
-use Rattle.reader.proofs.CountLaws.{fresh, items-next}
-use Rattle.reader.proofs.FillLaws.{part-back}
-use Rattle.places.specs.Places.{lineEnds, OwnLines, cueItem, namedItem}
+use Rattle.blocks.proofs.LineLaws.{ends-append}
+use Rattle.blocks.proofs.ItemLaws.{part-back}
+use Rattle.blocks.proofs.WalkLaws.{fresh, items-next, moves}
+use Rattle.places.specs.declared.finding.Found.{Found}
+use Rattle.places.specs.Places.{OwnLines}
+use Rattle.places.specs.Finding.{withItem, FoundIn}
 
--- how many LF texts have
-ends-append : (x y : List ℕ) → lineEnds (x ++ y) ≡ lineEnds x + lineEnds y
-unfolding lineEnds
-ends-append [] y = omega arith
-ends-append (b ∷ x) y = omega (arith, ends-append x y)
-
-ends-none : (l : List ℕ) → absent lf l ≡ true → lineEnds l ≡ 0
-unfolding lineEnds absent
-ends-none [] a = refl
-ends-none (b ∷ l) a =
-    rw (not-true (eqb b lf) (and-left (not (eqb b lf)) (absent lf l) a)) (omega (arith, ends-none l (and-right (not (eqb b lf)) (absent lf l) a)))
-
+-- a text has one line more than LF
 ends-split : (x : List ℕ) → length (split x) ≡ suc (lineEnds x)
 unfolding lineEnds split before onFirst
 ends-split [] = refl
@@ -51,115 +46,25 @@ ends-split (b ∷ x) =
     (λ y. rw y (omega arith))
     (λ z. rw (z, t .is) (omega (arith, rw (t .is) at n)))
 
--- the number of the line that begins at a place
-abbrev lineOf : List ℕ → ℕ → ℕ
-lineOf s p = lineEnds (take p s)
-
-line-of : (s x y : List ℕ) → s ≡ x ++ y → lineOf s (length x) ≡ lineEnds x
-line-of s x y e = ap (λ r. lineOf r (length x)) e ∙ ap lineEnds (take-append-seam x y)
-
-lines-numbered :
-    (s x : List ℕ) (ls : List (List ℕ))
-    → unbroken ls ≡ true
-    → s ≡ x ++ join ls
-    → map (moved (lineOf s)) (linesAt (length x) ls) ≡ numbered (lineEnds x) ls
-unfolding linesAt numbered join endedLines unbroken lineEnds
-lines-numbered s x [] u e = refl
-lines-numbered s x (l ∷ []) u e = rw (line-of s x (join (l ∷ [])) e)
-lines-numbered s x (l ∷ (m ∷ ms)) u e =
-    let y = l ++ lf ∷ [] in
-    let n : length (x ++ y) ≡ length x + suc (length l) = omega (arith, length-append x y, length-append l (lf ∷ [])) in
-    let k : lineEnds (x ++ y) ≡ suc (lineEnds x) =
-    omega (arith, ends-append x y, ends-append l (lf ∷ []), ends-none l (and-left (absent lf l) (unbroken (m ∷ ms)) u)) in
-    let more : s ≡ (x ++ y) ++ join (m ∷ ms) = e ∙ simp append-assoc in
-    let again = lines-numbered s (x ++ y) (m ∷ ms) (and-right (absent lf l) (unbroken (m ∷ ms)) u) more in
-    rw (line-of s x (join (l ∷ (m ∷ ms))) e) (ap (λ r. record { place = lineEnds x; bytes = l } ∷ r) (rw (n, k) at again))
-
-block-of : (i : Item) (b : List Part) → blockOfCue i b ≡ cond (isCue i) (b ∷ []) []
-unfolding blockOfCue isCue
-block-of nothing b = refl
-block-of (cue c over) b = refl
-block-of (style text) b = refl
-block-of (region r over) b = refl
-
--- blocks with other places give cues where the same blocks do
-module _ (f : ℕ → ℕ) where
-  cue-moved : (seen : Bool) (b : List Part) → isCue (meaning seen (map (moved f) b)) ≡ isCue (meaning seen b)
-  cue-moved seen b =
-      sym (isCue-unplaced seen (map (moved f) b))
-      ∙ ap (λ c. isCue (meaning seen c)) (map-map bare (moved f) b)
-      ∙ isCue-unplaced seen b
-
-  block-moved : (i j : Item) (b : List Part) → isCue i ≡ isCue j → blockOfCue i (map (moved f) b) ≡ map (map (moved f)) (blockOfCue j b)
-  block-moved i j b e = rw (block-of i (map (moved f) b), block-of j b, e) (by-test (isCue j) (λ y. rw y) (λ n. rw n))
-
-  cues-moved : (seen : Bool) (bs : List (List Part)) → cueBlocksFrom seen (map (map (moved f)) bs) ≡ map (map (moved f)) (cueBlocksFrom seen bs)
-  unfolding cueBlocksFrom
-  cues-moved seen [] = refl
-  cues-moved seen (b ∷ bs) =
-      let i = meaning seen b in
-      rw (
-        map-append (map (moved f)) (blockOfCue i b) (cueBlocksFrom (seen || isCue i) bs),
-        block-moved (meaning seen (map (moved f) b)) i b (cue-moved seen b),
-        cue-moved seen b,
-        cues-moved (seen || isCue i) bs,
-      )
-
--- the blocks of the cues, with their places in the text
-pub cuesOf : List ℕ → List (List Part)
-cuesOf s = cueBlocksFrom false (blocks s)
-
-cue-blocks : (s : List ℕ) → cueBlocks s ≡ map (map (moved (lineOf s))) (cuesOf s)
-unfolding cueBlocks blocks cuesOf lineEnds
-cue-blocks s =
-    let t = splits s in
-    let numbers : map (moved (lineOf s)) (linesAt 0 (split s)) ≡ numbered 0 (split s) = rw (t .is) (lines-numbered s [] (t .first ∷ t .rest) (t .whole) (sym (t .joined))) in
-    ap (λ ls. cueBlocksFrom false (behindSignature ls)) (sym numbers)
-    ∙ ap (cueBlocksFrom false) (signature-moved (lineOf s) (linesAt 0 (split s)))
-    ∙ cues-moved (lineOf s) false (blocks s)
-
-cues-count : (seen : Bool) (bs : List (List Part)) → length (cueBlocksFrom seen bs) ≡ length (listed (itemsFrom seen bs) .cues)
-unfolding cueBlocksFrom itemsFrom listed
-cues-count seen [] = refl
-cues-count seen (b ∷ bs) =
-    let i = meaning seen b in
-    let more = seen || isCue i in
-    length-append (blockOfCue i b) (cueBlocksFrom more bs)
-    ∙ ap (λ n. length (blockOfCue i b) + n) (cues-count more bs)
-    ∙ sym (cues-into b i (listed (itemsFrom more bs)))
-
-first-moved : (s : List ℕ) (ls : List Part) → firstNumber (map (moved (lineOf s)) ls) ≡ lineOf s (firstNumber ls)
-unfolding firstNumber lineEnds
-first-moved s [] = refl
-first-moved s (l ∷ ls) = refl
-
 -- the block of a cue, by its places
-module _ (s : List ℕ) (number from : ℕ) (st : Stop) (b : BlockAt s from st) (is : getD (cuesOf s) number [] ≡ b .lines) where
-  numbered-block : getD (cueBlocks s) number [] ≡ map (moved (lineOf s)) (b .lines)
-  numbered-block =
-      ap (λ bs. getD bs number []) (cue-blocks s) ∙ List·getD-map (map (moved (lineOf s))) (cuesOf s) number [] ∙ ap (map (moved (lineOf s))) is
-
+module _ (s : List ℕ) (number from : ℕ) (st : Stop) (b : BlockAt s from st) (is : getD (cueBlocks s) number [] ≡ b .lines) where
   abbrev own : List ℕ
   own = take (st .to - from) (drop from s)
 
-  first-line : firstLine s number ≡ lineOf s from
+  first-line : firstLine s number ≡ lineEnds (take from s)
   unfolding firstLine
-  first-line = ap firstNumber numbered-block ∙ first-moved s (b .lines) ∙ ap (lineOf s) (b .begins)
+  first-line = ap firstNumber is ∙ b .begins
 
   block-length : length (getD (cueBlocks s) number []) ≡ suc (lineEnds own)
-  block-length =
-      ap length numbered-block
-      ∙ length-map (b .lines) (moved (lineOf s))
-      ∙ sym (length-bytes (b .lines))
-      ∙ ap length (sym (b .covers))
-      ∙ ends-split own
+  block-length = ap length is ∙ sym (length-bytes (b .lines)) ∙ ap length (sym (b .covers)) ∙ ends-split own
 
-  pub own-lines : OwnLines s number from (st .to)
+  own-lines : OwnLines s number from (st .to)
   unfolding lastLine
   own-lines =
       let l : from ≤ st .to = omega (arith, b .starts, b .first-end, b .end-to) in
       let e : st .to ≡ from + (st .to - from) = omega arith in
-      let ends : lineOf s (st .to) ≡ lineOf s from + lineEnds own = ap (lineOf s) e ∙ ap lineEnds (take-add from (st .to - from) s) ∙ ends-append (take from s) own in
+      let ends : lineEnds (take (st .to) s) ≡ lineEnds (take from s) + lineEnds own =
+      ap (λ i. lineEnds (take i s)) e ∙ ap lineEnds (take-add from (st .to - from) s) ∙ ends-append (take from s) own in
       record {
         some = l;
         inside = omega (arith, b .to-at, b .inside);
@@ -167,102 +72,8 @@ module _ (s : List ℕ) (number from : ℕ) (st : Stop) (b : BlockAt s from st) 
         last = omega (arith, first-line, block-length, ends);
       }
 
-is-cue : (i : Item) → itemOver i ≡ false → cueItem (itemIs i) ≡ isCue i
-unfolding isCue itemOver
-is-cue nothing w = refl
-is-cue (cue c over) w = rw w
-is-cue (style text) w = refl
-is-cue (region r over) w = rw w
-
--- what the next block gives, where no number is above its limit
-module _ (s : List ℕ) (at from : ℕ) (st : Stop) (next : NextAt s at from st) (seen : Bool) (w : anyOver (itemsFrom seen (fresh s at)) ≡ false) where
-  abbrev item : Item
-  item = meaningAt seen s from st
-
-  abbrev behind : List Item
-  behind = itemsFrom (seen || isCue item) (fresh s (st .at))
-
-  any-over : itemOver item || anyOver behind ≡ false
-  unfolding anyOver
-  any-over = rw (items-next s at from st seen next) at w
-
-  not-over : itemOver item ≡ false
-  not-over = or-first (itemOver item) (anyOver behind) any-over
-
-  none-over : anyOver behind ≡ false
-  none-over = or-second (itemOver item) (anyOver behind) any-over
-
-  pub cue-is : cueItem (itemIs item) ≡ isCue item
-  cue-is = is-cue item not-over
-
-  cues-next :
-      cueBlocksFrom seen (fresh s at) ≡ cond (isCue item) (next .block .lines ∷ []) [] ++ cueBlocksFrom (seen || isCue item) (fresh s (st .at))
-  unfolding cueBlocksFrom
-  cues-next =
-      let b = next .block in
-      ap (cueBlocksFrom seen) (next .same ∙ b .divides) ∙ rw (b .meant seen, block-of item (b .lines))
-
--- n cues have been passed over, and the blocks from a place on are to come
-pub record Looking (s : List ℕ) (number at n : ℕ) : Type 0 where
-  pub inside : at ≤ length s
-  pub upto : n ≤ number
-  pub within : anyOver (itemsFrom (ltb 0 n) (fresh s at)) ≡ false
-  pub left : drop n (cuesOf s) ≡ cueBlocksFrom (ltb 0 n) (fresh s at)
-
-module _ (s : List ℕ) (number at : ℕ) where
-  pub look-start : at ≤ length s → blocks s ≡ fresh s at → anyOver (items s) ≡ false → Looking s number at 0
-  unfolding items cuesOf
-  look-start l e w =
-      record {
-        inside = l;
-        upto = omega arith;
-        within = ap (λ bs. anyOver (itemsFrom false bs)) (sym e) ∙ w;
-        left = ap (cueBlocksFrom false) e;
-      }
-
-  module _ (n : ℕ) (look : Looking s number at n) where
-    pub look-end : fresh s at ≡ [] → number < length (lists s .cues) → ⊥
-    unfolding cueBlocksFrom cuesOf lists items
-    look-end e h =
-        let none : drop n (cuesOf s) ≡ [] = look .left ∙ ap (cueBlocksFrom (ltb 0 n)) e in
-        omega (arith, ap length none, length-drop n (cuesOf s), cues-count false (blocks s), look .upto)
-
-    module _ (from : ℕ) (st : Stop) (next : NextAt s at from st) where
-      abbrev read : Item
-      read = meaningAt (ltb 0 n) s from st
-
-      abbrev more : List (List Part)
-      more = cueBlocksFrom (ltb 0 n || isCue read) (fresh s (st .at))
-
-      left-next : (t : Bool) → isCue read ≡ t → drop n (cuesOf s) ≡ cond t (next .block .lines ∷ []) [] ++ more
-      left-next t e = look .left ∙ cues-next s at from st next (ltb 0 n) (look .within) ∙ ap (λ t. cond t (next .block .lines ∷ []) [] ++ more) e
-
-      pub look-found : isCue read ≡ true → n ≡ number → OwnLines s number from (st .to)
-      look-found y e =
-          let z : n + 0 ≡ number = omega arith in
-          let is : getD (cuesOf s) number [] ≡ next .block .lines =
-          ap (λ k. getD (cuesOf s) k []) (sym z) ∙ sym (getD-drop n (cuesOf s) 0 []) ∙ ap (λ bs. getD bs 0 []) (left-next true y) in
-          own-lines s number from st (next .block) is
-
-      look-on : (m : ℕ) → m ≤ number → ltb 0 m ≡ ltb 0 n || isCue read → drop m (cuesOf s) ≡ more → Looking s number (st .at) m
-      look-on m u q e =
-          record {
-            inside = next .block .inside;
-            upto = u;
-            within = rw q (none-over s at from st next (ltb 0 n) (look .within));
-            left = rw q e;
-          }
-
-      pub look-cue : isCue read ≡ true → n < number → Looking s number (st .at) (n + 1)
-      look-cue y h =
-          look-on (n + 1) (omega arith) (lt-ltb 0 (n + 1) (omega arith) ∙ sym (ap (λ t. ltb 0 n || t) y ∙ or-true (ltb 0 n)))
-          (sym (drop-drop 1 n (cuesOf s)) ∙ ap (drop 1) (left-next true y))
-
-      pub look-other : isCue read ≡ false → Looking s number (st .at) n
-      look-other z = look-on n (look .upto) (sym (ap (λ t. ltb 0 n || t) z ∙ or-false (ltb 0 n))) (left-next false z)
-
 -- has one of these names, in whatever order they are looked through
-pub anyNamed : List ℕ → List (List ℕ) → Bool
+anyNamed : List ℕ → List (List ℕ) → Bool
 anyNamed x [] = false
 anyNamed x (id ∷ names) = same id x || anyNamed x names
 
@@ -276,53 +87,162 @@ unfolding lastNamed anyNamed isThere
 there-is k x [] = refl
 there-is k x (id ∷ names) = there-later (lastNamed (k + 1) x names) (same id x) k ∙ ap (λ t. same id x || t) (there-is (k + 1) x names)
 
-named-into :
-    (s name : List ℕ) (i : Item) (l : Lists)
-    → itemOver i ≡ false
-    → ItemStands s i
-    → anyNamed name (ids (into i l .regions)) ≡ namedItem s (itemIs i) name || anyNamed name (ids (l .regions))
-unfolding into itemOver ids anyNamed
-named-into s name nothing l w h = refl
-named-into s name (cue c over) l w h = rw w
-named-into s name (style text) l w h = refl
-named-into s name (region r over) l w h = rw (w, part-back s (r .id) h)
+-- this has been found, and these items and these blocks of cues are to come
+record Left (s : List ℕ) (number : ℕ) (name : List ℕ) (is : List Item) (cs : List (List Line)) (f : Found) : Type 0 where
+  blocks : drop (f .cues) (cueBlocks s) ≡ cs
+  over : anyOver (items s) ≡ anyOver is
+  stand : All (ItemStands s) is
+  counted : f .cues + length (listed is .cues) ≡ length (lists s .cues)
+  own : number < f .cues → OwnLines s number (f .own .from) (f .own .to)
+  none : f .cues ≤ number → f .own ≡ noSpan
+  named : f .named || anyNamed name (ids (listed is .regions)) ≡ isThere (lastNamed 0 name (regionNames s))
 
--- no region so far has the name, and these items are to come
-pub record Naming (s name : List ℕ) (is : List Item) : Type 0 where
-  pub within : anyOver is ≡ false
-  pub stand : All (ItemStands s) is
-  pub left : anyNamed name (ids (listed is .regions)) ≡ isThere (lastNamed 0 name (regionNames s))
+-- one item more, of the block b, whose lines stand there
+module _
+    (s : List ℕ) (number : ℕ) (name : List ℕ) (is : List Item) (b : List Line) (cs : List (List Line)) (f : Found) (lines : Span)
+    (stand-there : getD (cueBlocks s) number [] ≡ b → OwnLines s number (lines .from) (lines .to))
+  where
+    -- the block of the cue asked for
+    own-here : drop (f .cues) (cueBlocks s) ≡ b ∷ cs → f .cues ≡ number → OwnLines s number (lines .from) (lines .to)
+    own-here e q =
+        let z : f .cues + 0 ≡ number = omega arith in
+        stand-there
+        (ap (λ k. getD (cueBlocks s) k []) (sym z) ∙ sym (getD-drop (f .cues) (cueBlocks s) 0 []) ∙ ap (λ bs. getD bs 0 []) e)
 
-module _ (s name : List ℕ) where
-  pub naming-start : (bs : List (List Part)) → blocks s ≡ bs → anyOver (items s) ≡ false → Naming s name (itemsFrom false bs)
-  unfolding items lists regionNames
-  naming-start bs e w =
-      rw (sym e)
-      (record {
-        within = w;
-        stand = items-stand s false (blocks s) (blocks-follow s);
-        left = sym (there-is 0 name (regionNames s));
-      })
+    -- what the item adds to what has been found, it takes from what is to come
+    left-next :
+        (i : Item)
+        → itemOver i ≡ false
+        → Left s number name (i ∷ is) (blockOfCue i b ++ cs) f
+        → Left s number name is cs (withItem s number name (itemIs i) lines f)
+    unfolding blockOfCue anyOver itemOver listed into ids anyNamed
+    left-next nothing w h =
+        record { blocks = h .blocks; over = h .over; stand = h .stand .1; counted = h .counted; own = h .own; none = h .none; named = h .named }
+    left-next (cue c over) w h =
+        rw w
+        (record {
+          blocks = sym (drop-drop 1 (f .cues) (cueBlocks s)) ∙ ap (drop 1) (h .blocks);
+          over = rw w at (h .over);
+          stand = h .stand .1;
+          counted = omega (arith, h .counted);
+          own = λ l.
+              by-test (eqb (f .cues) number)
+              (λ y. rw y (own-here (h .blocks) (eqb-true (f .cues) number y)))
+              (λ z. rw z (h .own (omega (arith, eqb-false (f .cues) number z))));
+          none = λ l. rw (ne-eqb (f .cues) number (λ e. absurd (omega arith))) (h .none (omega arith));
+          named = h .named;
+        })
+    left-next (style text) w h =
+        record { blocks = h .blocks; over = h .over; stand = h .stand .1; counted = h .counted; own = h .own; none = h .none; named = h .named }
+    left-next (region r over) w h =
+        rw w
+        (record {
+          blocks = h .blocks;
+          over = rw w at (h .over);
+          stand = h .stand .1;
+          counted = h .counted;
+          own = h .own;
+          none = h .none;
+          named = rw (part-back s (r .id) (h .stand .0)) (or-assoc (f .named) (same (r .id .bytes) name) _ ∙ h .named);
+        })
 
-  pub naming-end : (seen : Bool) → Naming s name (itemsFrom seen []) → false ≡ isThere (lastNamed 0 name (regionNames s))
-  unfolding itemsFrom listed ids anyNamed
-  naming-end seen h = h .left
+module _ (s : List ℕ) (number : ℕ) (name : List ℕ) (lines : Span) (f : Found) where
+  -- a cue has succeeded where there is one
+  seen-next : (i : Item) → itemOver i ≡ false → ltb 0 (withItem s number name (itemIs i) lines f .cues) ≡ ltb 0 (f .cues) || isCue i
+  unfolding itemOver isCue
+  seen-next nothing w = sym (or-false (ltb 0 (f .cues)))
+  seen-next (cue c over) w = rw w (lt-ltb 0 (f .cues + 1) (omega arith) ∙ sym (or-true (ltb 0 (f .cues))))
+  seen-next (style text) w = sym (or-false (ltb 0 (f .cues)))
+  seen-next (region r over) w = rw w (sym (or-false (ltb 0 (f .cues))))
 
-  module _ (i : Item) (is : List Item) (h : Naming s name (i ∷ is)) where
-    item-within : itemOver i ≡ false
-    unfolding anyOver
-    item-within = or-first (itemOver i) (anyOver is) (h .within)
+  -- an item is at most one cue
+  with-most : (i : Read.Item) → withItem s number name i lines f .cues ≤ f .cues + 1
+  with-most Made.Nothing = omega arith
+  with-most Made.Over = omega arith
+  with-most (Made.Cue c) = omega arith
+  with-most (Made.Style t) = omega arith
+  with-most (Made.Region r) = omega arith
 
-    left-named : namedItem s (itemIs i) name || anyNamed name (ids (listed is .regions)) ≡ isThere (lastNamed 0 name (regionNames s))
-    unfolding listed
-    left-named = sym (named-into s name i (listed is) item-within (h .stand .0)) ∙ h .left
+-- this has been found in the blocks before a place
+pub record Walking (s : List ℕ) (number : ℕ) (name : List ℕ) (at : ℕ) (f : Found) : Type 0 where
+  pub inside : at ≤ length s
+  pub few : f .cues ≤ at
+  left : Left s number name (itemsFrom (ltb 0 (f .cues)) (fresh s at)) (cueBlocksFrom (ltb 0 (f .cues)) (fresh s at)) f
 
-    pub naming-cue : cueItem (itemIs i) ≡ isCue i
-    naming-cue = is-cue i item-within
+module _ (s : List ℕ) (number : ℕ) (name : List ℕ) (at : ℕ) where
+  -- before the first block nothing has been found
+  pub walk-start : at ≤ length s → blocks s ≡ fresh s at → Walking s number name at (record { cues = 0; own = noSpan; named = false })
+  unfolding items lists cueBlocks regionNames
+  walk-start l e =
+      record {
+        inside = l;
+        few = omega arith;
+        left = rw (sym e)
+            (record {
+              blocks = refl;
+              over = refl;
+              stand = items-stand s false (blocks s) (blocks-follow s);
+              counted = omega arith;
+              own = λ l. absurd (omega arith);
+              none = λ l. refl;
+              named = sym (there-is 0 name (regionNames s));
+            });
+      }
 
-    pub naming-found : namedItem s (itemIs i) name ≡ true → true ≡ isThere (lastNamed 0 name (regionNames s))
-    naming-found y = rw y at left-named
+  module _ (f : Found) (h : Walking s number name at f) where
+    abbrev seen : Bool
+    seen = ltb 0 (f .cues)
 
-    pub naming-next : namedItem s (itemIs i) name ≡ false → Naming s name is
-    unfolding anyOver
-    naming-next n = record { within = or-second (itemOver i) (anyOver is) (h .within); stand = h .stand .1; left = rw n at left-named }
+    -- after the last block all has been found
+    pub walk-end : hasSignature s ≡ true → fresh s at ≡ [] → FoundIn s number name f
+    unfolding itemsFrom cueBlocksFrom anyOver listed ids anyNamed
+    walk-end y e =
+        let left : Left s number name [] [] f = rw e at (h .left) in
+        record {
+          signature = y;
+          within = left .over;
+          counted = omega (arith, left .counted);
+          own = left .own;
+          none = left .none;
+          named = sym (or-false (f .named)) ∙ left .named;
+        }
+
+    module _ (from : ℕ) (st : Stop) (next : NextAt s at from st) where
+      abbrev item : Item
+      item = meaningAt seen s from st
+
+      abbrev lines : Span
+      lines = record { from = from; to = st .to }
+
+      abbrev more : Found
+      more = withItem s number name (itemIs item) lines f
+
+      -- the items and the blocks of cues to come
+      abbrev later : List Item
+      later = itemsFrom (seen || isCue item) (fresh s (st .at))
+
+      abbrev laterCues : List (List Line)
+      laterCues = cueBlocksFrom (seen || isCue item) (fresh s (st .at))
+
+      -- what is to come begins with this block
+      cues-next : cueBlocksFrom seen (fresh s at) ≡ blockOfCue item (next .block .lines) ++ laterCues
+      unfolding cueBlocksFrom
+      cues-next = let b = next .block in ap (cueBlocksFrom seen) (next .same ∙ b .divides) ∙ rw (b .meant seen)
+
+      with-next : Left s number name (item ∷ later) (blockOfCue item (next .block .lines) ++ laterCues) f
+      with-next = rw (items-next s at from st seen next, cues-next) at (h .left)
+
+      -- a block with a number above its limit, and any other block
+      pub walk-over : itemOver item ≡ true → anyOver (items s) ≡ true
+      unfolding anyOver
+      walk-over y = with-next .over ∙ rw y
+
+      pub walk-next : itemOver item ≡ false → Walking s number name (st .at) more
+      walk-next w =
+          let b = next .block in
+          record {
+            inside = b .inside;
+            few = omega (arith, h .few, moves s at from st next, with-most s number name lines f (itemIs item));
+            left = rw (seen-next s number name lines f item w)
+                (left-next s number name later (b .lines) laterCues f lines (own-lines s number from st b) item w with-next);
+          }

@@ -1,5 +1,4 @@
 -- Laws that this crate's proofs cite.
 pub mod PlaceLaws
 pub mod FindLaws
-pub mod CountLaws
 pub mod TestLaws

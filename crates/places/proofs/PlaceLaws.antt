@@ -2,7 +2,7 @@
 use Prim.Native.Nat.{ℕ, zero, suc, _+_, _≤_, _<_}
 use mathlib.Core.Path.{_≡_, refl, sym}
 use mathlib.Core.Bool.{Bool, cond}
-use mathlib.Core.List.{List, [], _∷_, _++_}
+use mathlib.Core.List.{List, [], _∷_}
 use native.Mathlib.Numerals.{add-one}
 use native.Mathlib.Omega.{arith}
 use lib.Dec.{eqb}
@@ -14,12 +14,9 @@ use Rattle.format.specs.Texts.{startsWith}
 use Rattle.format.specs.Replacing.{RawLine, emptyLine, onRawLine, onEnding, beforeLines, rawLines, rawBytes, rawStart, rawEnd}
 use Rattle.laws.proofs.Tests.{by-test}
 use Rattle.replaced.proofs.RawLines.{lf-first}
-use Rattle.places.specs.Places.{lineEnds, endsLine}
-
-lineEnds-snoc : (s : List ℕ) (b : ℕ) → lineEnds (s ++ b ∷ []) ≡ lineEnds s + cond (eqb b lf) 1 0
-unfolding lineEnds
-lineEnds-snoc [] b = omega arith
-lineEnds-snoc (c ∷ s) b = omega (arith, lineEnds-snoc s b)
+use Rattle.blocks.specs.Collecting.{lineEnds}
+use Rattle.blocks.proofs.LineLaws.{ends-append}
+use Rattle.places.specs.Places.{endsLine}
 
 -- the line ends up to a place, with one byte more
 pub ends-next :
@@ -28,7 +25,8 @@ pub ends-next :
     → (t : Bool)
     → eqb (getD s i 0) lf ≡ t
     → lineEnds (take (i + 1) s) ≡ lineEnds (take i s) + cond t 1 0
-ends-next s i l t e = rw (sym e, add-one i, take-suc s i 0 l) (lineEnds-snoc (take i s) (getD s i 0))
+unfolding lineEnds
+ends-next s i l t e = rw (sym e, add-one i, take-suc s i 0 l) (omega (arith, ends-append (take i s) (getD s i 0 ∷ [])))
 
 -- line n of ls is line m of ms, and starts one byte later
 record Later (ls ms : List RawLine) (n m : ℕ) : Type 0 where

@@ -1,3 +1,3 @@
 -- What the contracts of this crate's functions say beyond `format`.
 pub mod Places
-pub mod Counting
+pub mod Finding

@@ -1,21 +1,14 @@
--- Lines and their numbers by places, and what a block gives, as the code asks for it.
-use Prim.Native.Nat.{ℕ, _+_, _≤_}
+-- Lines and their numbers by places.
+use Prim.Native.Nat.{ℕ, _≤_}
 use mathlib.Core.Path.{_≡_}
-use mathlib.Core.Bool.{Bool, true, false, cond, not, _||_, _&&_}
+use mathlib.Core.Bool.{Bool, not, _||_, _&&_}
 use mathlib.Core.List.{List, [], _∷_}
 use lib.Dec.{eqb}
 use lib.ListN.{length, take}
 use Rattle.format.specs.Bytes.{lf, cr}
-use Rattle.format.specs.Texts.{startsWith, same}
+use Rattle.format.specs.Texts.{startsWith}
 use Rattle.format.specs.Replacing.{firstLine, lastLine}
-use Rattle.values.specs.Tokens.{partOf}
-use Rattle.blocks.specs.declared.items.Item.{Item}
-use Rattle.blocks.specs.declared.items.Item.the-variants as Item
-
--- how many LF a text has
-unfoldable pub lineEnds : List ℕ → ℕ
-lineEnds [] = 0
-lineEnds (b ∷ s) = cond (eqb b lf) 1 0 + lineEnds s
+use Rattle.blocks.specs.Collecting.{lineEnds}
 
 -- does a raw line end behind this byte, before the bytes s
 unfoldable pub endsLine : ℕ → List ℕ → Bool
@@ -27,18 +20,3 @@ pub record OwnLines (s : List ℕ) (number from to : ℕ) : Type 0 where
   pub inside : to ≤ length s
   pub first : firstLine s number ≡ lineEnds (take from s)
   pub last : lastLine s number ≡ lineEnds (take to s)
-
-abbrev pub cueItem : Item → Bool
-cueItem Item.Nothing = false
-cueItem Item.Over = false
-cueItem (Item.Cue c) = true
-cueItem (Item.Style t) = false
-cueItem (Item.Region r) = false
-
--- is the item a region with this name, its identifier being a part of the text s
-abbrev pub namedItem : List ℕ → Item → List ℕ → Bool
-namedItem s Item.Nothing name = false
-namedItem s Item.Over name = false
-namedItem s (Item.Cue c) name = false
-namedItem s (Item.Style t) name = false
-namedItem s (Item.Region r) name = same (partOf s (r .id .from) (r .id .to) .bytes) name

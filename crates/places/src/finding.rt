@@ -1,84 +1,104 @@
-// The block of one cue, and the names of the regions, found block by block.
+// One walk over the blocks of a plain text: how many cues it has, where the lines of one cue stand, and whether a region has a name.
 use blocks::Next;
 use blocks::items::Item;
 use format::settings::Span;
 use values::bytes::same_bytes;
 ghost use mathlib.Core.Path.{_≡_};
-ghost use Prim.Native.Nat.{_<_, _≤_};
+ghost use mathlib.Core.Bool.{cond};
+ghost use Prim.Native.Nat.{_<_};
+ghost use lib.Dec.{eqb};
 ghost use lib.ListN.{length};
-ghost use mathlib.Core.Bool.{false};
-ghost use Rattle.format.specs.Limits.{maxText};
-ghost use Rattle.format.specs.RegionSettings.{lastNamed};
-ghost use Rattle.format.specs.Lists.{items, lists, anyOver};
-ghost use Rattle.format.specs.Replacing.{isThere, regionNames};
-ghost use Rattle.places.specs.Places.{OwnLines, cueItem, namedItem};
+ghost use Rattle.places.specs.Finding.{hasName, withItem, SurveyedIs};
 
-// From the first byte of the first line of the cue with this number up to the end of its last line, in a readable text that has it.
-pub fn find_cue(s: &[u8], number: usize) -> Span
-    requires { ⌜ (length (now s) ≤ maxText) × (anyOver (items (now s)) ≡ false) × (number < length (lists (now s) .cues)) ⌝ }
-    ensures { λ r. ⌜ OwnLines (now (s .entry)) number (r .from) (r .to) ⌝ }
-{
-    let mut at = blocks::past_header(s);
-    let mut n: usize = 0;
-    loop {
-        let next = blocks::next_block(s, at);
-        let Next::Block { from, stop } = next else {
-            return Span::NONE;
-        };
-        let item = blocks::items::item_at(s, from, stop, 0 < n);
-        if is_cue(item) {
-            if n == number {
-                return Span { from, to: stop.to };
-            }
-            n += 1;
-        }
-        at = stop.at;
-    }
+// What the blocks have that were passed over.
+pub struct Found {
+    // How many cues.
+    pub cues: usize,
+    // From the first byte of the first line of the cue asked for up to the end of its last line; nowhere without that cue.
+    pub own: Span,
+    // Has a region the name asked for.
+    pub named: bool,
 }
 
-fn is_cue(item: Item) -> bool
-    ensures { λ r. ⌜ r ≡ cueItem item ⌝ }
-{
-    match item {
-        Item::Nothing => false,
-        Item::Over => false,
-        Item::Cue(_) => true,
-        Item::Style(_) => false,
-        Item::Region(_) => false,
-    }
+pub enum Surveyed {
+    NoSignature,
+    // A number is above its limit.
+    OverLimit,
+    Readable(Found),
 }
 
-// Has a readable text a region with this name.
-pub fn has_region(s: &[u8], name: &[u8]) -> bool
-    requires { ⌜ (length (now s) ≤ maxText) × (anyOver (items (now s)) ≡ false) ⌝ }
-    ensures { λ r. ⌜ r ≡ isThere (lastNamed 0 (now (name .entry)) (regionNames (now (s .entry)))) ⌝ }
+// Is the part of the text at these places this name.
+fn is_named(s: &[u8], id: Span, name: &[u8]) -> bool
+    ensures { λ r. ⌜ r ≡ hasName (now (s .entry)) id (now (name .entry)) ⌝ }
 {
-    let mut at = blocks::past_header(s);
-    let mut seen = false;
-    loop {
-        let next = blocks::next_block(s, at);
-        let Next::Block { from, stop } = next else {
-            return false;
-        };
-        let item = blocks::items::item_at(s, from, stop, seen);
-        if is_named(s, item, name) {
-            return true;
-        }
-        if is_cue(item) {
-            seen = true;
-        }
-        at = stop.at;
-    }
-}
-
-fn is_named(s: &[u8], item: Item, name: &[u8]) -> bool
-    ensures { λ r. ⌜ r ≡ namedItem (now (s .entry)) item (now (name .entry)) ⌝ }
-{
-    let Item::Region(region) = item else {
-        return false;
-    };
-    let id = region.id;
     let end = values::least(id.to, s.len());
     let start = values::least(id.from, end);
     same_bytes(&s[start..end], name)
+}
+
+// Where the lines of the cue asked for stand, with one cue more, which has these lines.
+fn own_lines(found: Found, lines: Span, number: usize) -> Span
+    ensures { λ r. ⌜ r ≡ cond (eqb (found .cues) number) lines (found .own) ⌝ }
+{
+    let n = found.cues;
+    if n == number {
+        return lines;
+    }
+    found.own
+}
+
+// One block more, which gives this item and has these lines.
+fn with_item(found: Found, s: &[u8], item: Item, lines: Span, number: usize, name: &[u8]) -> Found
+    requires { ⌜ found .cues < length (now s) ⌝ }
+    ensures { λ r. ⌜ r ≡ withItem (now (s .entry)) number (now (name .entry)) item lines found ⌝ }
+{
+    match item {
+        Item::Nothing => found,
+        Item::Over => found,
+        Item::Cue(_) => {
+            let own = own_lines(found, lines, number);
+            Found {
+                cues: found.cues + 1,
+                own,
+                named: found.named,
+            }
+        }
+        Item::Style(_) => found,
+        Item::Region(region) => {
+            let own = found.own;
+            let id = region.id;
+            Found {
+                cues: found.cues,
+                own,
+                named: found.named || is_named(s, id, name),
+            }
+        }
+    }
+}
+
+// What a text has: the cue with this number and a region with this name are looked for.
+pub fn survey(s: &[u8], number: usize, name: &[u8]) -> Surveyed
+    ensures { λ r. ⌜ SurveyedIs (now (s .entry)) number (now (name .entry)) r ⌝ }
+{
+    if !blocks::has_signature(s) {
+        return Surveyed::NoSignature;
+    }
+    let mut at = blocks::past_header(s);
+    let mut found = Found {
+        cues: 0,
+        own: Span::NONE,
+        named: false,
+    };
+    loop {
+        let next = blocks::next_block(s, at);
+        let Next::Block { from, stop } = next else {
+            return Surveyed::Readable(found);
+        };
+        let item = blocks::items::item_at(s, from, stop, 0 < found.cues);
+        if blocks::items::is_over(item) {
+            return Surveyed::OverLimit;
+        }
+        found = with_item(found, s, item, Span { from, to: stop.to }, number, name);
+        at = stop.at;
+    }
 }

@@ -1,6 +1,4 @@
-// Where a cue's own lines stand in a file, how many cues and which regions it has, and the tests of the new cue. All functions stand in
-// modules, as inner ones, since some of them ask their caller for a text that is plain or readable.
-pub mod counting;
+// What one walk over a file's blocks finds, where a cue's own lines stand, and the tests of the new cue. All functions stand in modules.
 pub mod finding;
 pub mod lines;
 pub mod testing;

@@ -3,7 +3,8 @@ ghost use mathlib.Core.Path.{_≡_};
 ghost use Prim.Native.Nat.{_+_, _<_};
 ghost use lib.ListN.{length, getD, take, drop};
 ghost use Rattle.format.specs.Replacing.{rawStart, rawEnd};
-ghost use Rattle.places.specs.Places.{lineEnds, endsLine};
+ghost use Rattle.blocks.specs.Collecting.{lineEnds};
+ghost use Rattle.places.specs.Places.{endsLine};
 
 // The number of the line of a plain text that has this place.
 pub fn lines_before(s: &[u8], place: usize) -> usize

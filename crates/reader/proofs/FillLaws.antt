@@ -1,11 +1,11 @@
 -- The second pass over a text: the rows that are stored item by item are the rows of the text's lists.
-use Prim.Native.Nat.{ℕ, _+_, _-_, _≤_, _<_, min}
+use Prim.Native.Nat.{ℕ, _+_, _≤_}
 use mathlib.Core.Path.{_≡_, refl, sym, ap, subst, _∙_}
-use mathlib.Core.Bool.{Bool, true, false, _||_, true≢false}
+use mathlib.Core.Bool.{Bool, true, false, _||_}
 use mathlib.Core.List.{List, [], _∷_, map}
 use native.Mathlib.Omega.{arith}
 use lib.Dec.{eqb, ltb}
-use lib.ListN.{length, length-map, take, drop, set, length-drop, length-take}
+use lib.ListN.{length, length-map, take, set}
 use lib.Seq.{take-length}
 use borrow.Author.Tests.{ne-eqb}
 use Rattle.format.specs.Texts.{Part, isEmpty}
@@ -25,31 +25,9 @@ use Rattle.blocks.specs.Items.{meaningAt, NextAt, cueIs, itemIs}
 use Rattle.reader.specs.declared.counting.Counts.{Counts}
 use Rattle.reader.specs.Counting.{withItem}
 use Rattle.reader.specs.Filling.{regionAt, entryOf, cuesWith, regionsWith, stylesWith, RoomFor}
-use Rattle.reader.proofs.CountLaws.{fresh, items-next, moves, seen-next, with-most}
-
-no-bytes : (x : List ℕ) → isEmpty x ≡ true → x ≡ []
-unfolding isEmpty
-no-bytes [] e = refl
-no-bytes (b ∷ x) e = absurd (true≢false (sym e))
-
-some-bytes : (x : List ℕ) → isEmpty x ≡ false → 0 < length x
-unfolding isEmpty
-some-bytes [] e = absurd (true≢false e)
-some-bytes (b ∷ x) e = omega arith
-
--- a part that stands in the text, by the places that the code holds of it
-pub part-back : (s : List ℕ) (p : Part) → Stands s p → partOf s (spanIs p .from) (spanIs p .to) .bytes ≡ p .bytes
-unfolding spanIs
-part-back s p h =
-    by-test (isEmpty (p .bytes))
-    (λ y. let a : min 0 (length s) ≡ 0 = omega arith in rw (y, a) (sym (no-bytes (p .bytes) y)))
-    (λ n. let x = p .bytes in
-    let some = some-bytes x n in
-    let fits : p .place + length x ≤ length s = omega (arith, ap length h, length-take (length x) (drop (p .place) s), length-drop (p .place) s) in
-    let a : min (p .place + length x) (length s) ≡ p .place + length x = omega arith in
-    let b : min (p .place) (p .place + length x) ≡ p .place = omega arith in
-    let c : p .place + length x - p .place ≡ length x = omega arith in
-    rw (n, a, b, c) h)
+use Rattle.blocks.proofs.ItemLaws.{some-bytes, part-back}
+use Rattle.blocks.proofs.WalkLaws.{fresh, items-next, moves}
+use Rattle.reader.proofs.CountLaws.{seen-next, with-most}
 
 span-empty : (p : Part) → eqb (spanIs p .from) (spanIs p .to) ≡ isEmpty (p .bytes)
 unfolding spanIs

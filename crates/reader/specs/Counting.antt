@@ -1,7 +1,7 @@
 -- The counts of lists, item by item, and what the first pass over a text answers.
 use Prim.Native.Nat.{ℕ, _+_}
 use mathlib.Core.Path.{_≡_}
-use mathlib.Core.Bool.{Bool, true, false, cond}
+use mathlib.Core.Bool.{true, false, cond}
 use mathlib.Core.List.{List}
 use lib.Dec.{ltb}
 use lib.ListN.{length}
@@ -17,13 +17,6 @@ use Rattle.blocks.specs.declared.items.Item.the-variants as Item
 use Rattle.reader.specs.declared.counting.Counts.{Counts}
 use Rattle.reader.specs.declared.counting.Tally.{Tally}
 use Rattle.reader.specs.declared.counting.Tally.the-variants as Tally
-
-abbrev pub isOver : Item → Bool
-isOver Item.Nothing = false
-isOver Item.Over = true
-isOver (Item.Cue c) = false
-isOver (Item.Style t) = false
-isOver (Item.Region r) = false
 
 abbrev pub withItem : Item → Counts → Counts
 withItem Item.Nothing n = n

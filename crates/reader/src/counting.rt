@@ -8,10 +8,10 @@ ghost use mathlib.Core.Bool.{false};
 ghost use Prim.Native.Nat.{_≤_};
 ghost use lib.ListN.{length};
 ghost use Rattle.format.specs.Limits.{maxText};
-ghost use Rattle.format.specs.Blocks.{hasSignature, between, blocksFrom};
+ghost use Rattle.format.specs.Blocks.{between, blocksFrom};
 ghost use Rattle.format.specs.Lists.{itemsFrom};
 ghost use Rattle.blocks.specs.Collecting.{linesFrom};
-ghost use Rattle.reader.specs.Counting.{isOver, withItem, tallyIs, countedIs, MeasuredIs};
+ghost use Rattle.reader.specs.Counting.{withItem, tallyIs, countedIs, MeasuredIs};
 
 // How many entries each list has so far.
 pub struct Counts {
@@ -50,18 +50,6 @@ impl Counts {
     }
 }
 
-pub fn is_over(item: Item) -> bool
-    ensures { λ r. ⌜ r ≡ isOver item ⌝ }
-{
-    match item {
-        Item::Nothing => false,
-        Item::Over => true,
-        Item::Cue(_) => false,
-        Item::Style(_) => false,
-        Item::Region(_) => false,
-    }
-}
-
 pub enum Tally {
     // A number is above its limit.
     Over,
@@ -81,34 +69,12 @@ fn count_items(s: &[u8], from: usize) -> Tally
             return Tally::Counts(n);
         };
         let item = blocks::items::item_at(s, begin, stop, 0 < n.cues);
-        if is_over(item) {
+        if blocks::items::is_over(item) {
             return Tally::Over;
         }
         n = n.with(item);
         at = stop.at;
     }
-}
-
-fn has_signature(s: &[u8]) -> bool
-    ensures { λ r. ⌜ r ≡ hasSignature (now (s .entry)) ⌝ }
-{
-    if s.len() < 6 {
-        return false;
-    }
-    if !values::bytes::same_bytes(&s[..6], b"WEBVTT") {
-        return false;
-    }
-    if s.len() == 6 {
-        return true;
-    }
-    let b = s[6];
-    if b == b' ' {
-        return true;
-    }
-    if b == b'\t' {
-        return true;
-    }
-    b == b'\n'
 }
 
 fn counted(tally: Tally) -> Reading
@@ -135,7 +101,7 @@ pub fn measure(s: &[u8]) -> Reading
     if let Plainness::NotPlainAt(at) = plainness {
         return Reading::TextNotPlainAt(at);
     }
-    if !has_signature(s) {
+    if !blocks::has_signature(s) {
         return Reading::NoSignature;
     }
     counted(count_items(s, blocks::past_header(s)))

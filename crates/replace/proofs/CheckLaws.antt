@@ -8,7 +8,6 @@ use native.Mathlib.Omega.{arith}
 use lib.Dec.{eqb}
 use lib.ListN.{length, getD, take, List·getD-map}
 use borrow.Author.Tests.{eq-eqb, ne-eqb, lt-ltb, le-ltb}
-use Rattle.format.specs.Limits.{maxFile, maxText}
 use Rattle.format.specs.Texts.{isEmpty}
 use Rattle.format.specs.Plain.{plainText, Plain}
 use Rattle.format.specs.Lines.{split}
@@ -22,13 +21,14 @@ use Rattle.format.specs.declared.Replacing.{Replacing}
 use Rattle.format.specs.declared.Replacing.the-variants as Replacing
 use Rattle.laws.proofs.Newlines.{newlines-keeps}
 use Rattle.laws.proofs.Plainness.{plain-absent}
-use Rattle.laws.proofs.PlainText.{plainText-length, plainText-plain}
+use Rattle.laws.proofs.PlainText.{plainText-plain}
 use Rattle.replaced.proofs.RawLines.{split-rawLines}
 use Rattle.replaced.proofs.CueBlocks.{cue-block-at}
 use Rattle.writable.specs.Faults.{testNumber}
 use Rattle.writable.proofs.FaultLaws.{none-fails, number-is}
-use Rattle.places.specs.Places.{lineEnds, OwnLines}
-use Rattle.replace.specs.NewCue.{gapAnswer, testedAnswer, countedAnswer, Outcome, Readable}
+use Rattle.blocks.specs.Collecting.{lineEnds}
+use Rattle.places.specs.Places.{OwnLines}
+use Rattle.replace.specs.NewCue.{gapAnswer, testedAnswer, countedAnswer, Outcome}
 
 by-length : (a : ℕ) (x : List ℕ) → eqb a (a + length x) ≡ isEmpty x
 unfolding isEmpty
@@ -44,12 +44,8 @@ gap-is s n p =
     ap (λ ls. getD ls n []) same ∙ List·getD-map (λ l. l .bytes) (rawLines s) n (emptyLine []) in
     rw line (by-length (rawStart s n) (getD (rawLines s) n (emptyLine []) .bytes))
 
--- a readable text is within the limit of a text
-pub within-text : (raw s : List ℕ) → Readable raw s → length s ≤ maxText
-within-text raw s h = rw (h .text) (omega (arith, plainText-length raw, h .size))
-
-pub is-plain : (raw s : List ℕ) → Readable raw s → Plain s
-is-plain raw s h = rw (h .text) (plainText-plain raw)
+pub is-plain : (raw s : List ℕ) → s ≡ plainText raw → Plain s
+is-plain raw s e = rw e (plainText-plain raw)
 
 -- a number of a test says that it fails, and 0 that none does
 module _ (s t w : List ℕ) {test : ℕ} (e : test ≡ testNumber (newCueFails t w (regionNames s))) where
@@ -151,9 +147,3 @@ module _ (raw : List ℕ) (number : ℕ) (t w out : List ℕ) where
         → Outcome new out (replacingText raw number t w (length out)) r room
     unfolding replacingText countedAnswer testedAnswer gapAnswer
     file-passed e o f = rw (rw q at e, rw q at o) f
-
-    pub plain-text : Plain s
-    plain-text = rw q (plainText-plain raw)
-
-    pub text-size : length raw ≤ maxFile → length s ≤ maxText
-    text-size h = rw q (omega (arith, plainText-length raw))

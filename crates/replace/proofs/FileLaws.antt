@@ -28,7 +28,8 @@ use Rattle.roundtrip.proofs.Shape.{none-fails}
 use Rattle.replaced.proofs.Asked.{names-are, asked-name}
 use Rattle.setting_forms.specs.Settings.{asked, namedRegion, settingsForm}
 use Rattle.forms.specs.Forms.{timingForm, cueForm}
-use Rattle.places.specs.Places.{lineEnds, OwnLines}
+use Rattle.blocks.specs.Collecting.{lineEnds}
+use Rattle.places.specs.Places.{OwnLines}
 use Rattle.replace.specs.NewCue.{lentForm, inPlace, Outcome}
 
 pub front-part : (s : List ℕ) (n : ℕ) → bytesAt s 0 n ≡ take n s

@@ -1,15 +1,13 @@
 -- The new file as the code puts it together, and what replacing answers check by check.
-use Prim.Native.Nat.{ℕ, _≤_}
+use Prim.Native.Nat.{ℕ}
 use mathlib.Core.Path.{_≡_}
-use mathlib.Core.Bool.{true, false, cond, not}
+use mathlib.Core.Bool.{cond, not}
 use mathlib.Core.List.{List, [], _∷_, _++_}
 use lib.Dec.{ltb}
 use lib.ListN.{length, take, drop}
-use Rattle.format.specs.Limits.{maxFile}
 use Rattle.format.specs.Texts.{isEmpty}
 use Rattle.format.specs.Plain.{plainText}
-use Rattle.format.specs.Blocks.{hasSignature}
-use Rattle.format.specs.Lists.{items, lists, anyOver}
+use Rattle.format.specs.Lists.{lists}
 use Rattle.format.specs.Answers.{Answer, refused, ifAccepted, fileAnswer, placed}
 use Rattle.format.specs.Rows.{newCueEntry}
 use Rattle.format.specs.Replacing.{nameLent, newCueFails, regionNames, newFile, noGap, replacingIs, unlessTest}
@@ -44,10 +42,3 @@ countedAnswer raw number t w out =
 pub record Outcome (new out : List ℕ) (a : Answer) (r : Replacing) (room : List ℕ) : Type 0 where
   pub answer : replacingIs r ≡ a
   pub holds : room ≡ ifAccepted a (placed new out) out
-
--- the plain text of a file that converting accepts, has the signature and no number above its limit
-pub record Readable (raw s : List ℕ) : Type 0 where
-  pub text : s ≡ plainText raw
-  pub size : length raw ≤ maxFile
-  pub signature : hasSignature s ≡ true
-  pub within : anyOver (items s) ≡ false

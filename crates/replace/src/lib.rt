@@ -5,13 +5,13 @@ use format::Replacing;
 use format::rows::NewCueRow;
 use format::settings::Span;
 use output::bytes;
-use places::counting;
-use places::counting::Counted;
 use places::finding;
+use places::finding::Found;
+use places::finding::Surveyed;
 use places::lines;
 use places::testing;
 use writable::part;
-ghost use Prim.Native.Nat.{ℕ, _-_, _≤_, _<_};
+ghost use Prim.Native.Nat.{ℕ, _-_, _<_};
 ghost use mathlib.Core.Path.{_≡_};
 ghost use mathlib.Core.Bool.{false, not, _&&_};
 ghost use mathlib.Core.Option.{none};
@@ -19,16 +19,16 @@ ghost use mathlib.Core.List.{[]};
 ghost use lib.ListN.{length, getD, take};
 ghost use Rattle.format.specs.Texts.{isEmpty};
 ghost use Rattle.format.specs.Lines.{split};
-ghost use Rattle.format.specs.Limits.{maxFile, maxText};
 ghost use Rattle.format.specs.Plain.{plainText, Plain};
-ghost use Rattle.format.specs.Lists.{items, lists, anyOver};
 ghost use Rattle.format.specs.Answers.{fileAnswer};
 ghost use Rattle.format.specs.Converting.{convertedRoom};
-ghost use Rattle.format.specs.Replacing.{newCueFails, regionNames, newFile, replacingIs, replacingText, replacing, replacedRoom, Replaced};
+ghost use Rattle.format.specs.Replacing.{nameLent, newCueFails, regionNames, newFile, replacingIs, replacingText, replacing, replacedRoom, Replaced};
 ghost use Rattle.format.specs.declared.Replacing.the-variants as Answer;
 ghost use Rattle.output.specs.Puts.{Puts};
-ghost use Rattle.places.specs.Places.{lineEnds, OwnLines};
-ghost use Rattle.replace.specs.NewCue.{inPlace, gapAnswer, testedAnswer, countedAnswer, Outcome, Readable};
+ghost use Rattle.blocks.specs.Collecting.{lineEnds};
+ghost use Rattle.places.specs.Places.{OwnLines};
+ghost use Rattle.places.specs.Finding.{FoundIn};
+ghost use Rattle.replace.specs.NewCue.{inPlace, gapAnswer, testedAnswer, countedAnswer, Outcome};
 
 // The file with the new cue's written form in place of the bytes from one place up to another.
 fn put_file(
@@ -59,7 +59,7 @@ fn replace_own(
     row: NewCueRow,
     out: &mut [u8],
 ) -> Replacing
-    requires { ⌜ (Readable (now raw) (now s)) × (OwnLines (now s) number (own .from) (own .to)) × (newCueFails (now text) row (regionNames (now s)) ≡ none) ⌝ }
+    requires { ⌜ (now s ≡ plainText (now raw)) × (OwnLines (now s) number (own .from) (own .to)) × (newCueFails (now text) row (regionNames (now s)) ≡ none) ⌝ }
     ensures { λ r. ⌜ Outcome (newFile (now (raw .entry)) number (now (text .entry)) row) (now (out .entry)) (fileAnswer (newFile (now (raw .entry)) number (now (text .entry)) row) (length (now (out .entry)))) r (now (out .exit)) ⌝ }
 {
     let start = lines::raw_start(raw, lines::lines_before(s, own.from));
@@ -100,14 +100,15 @@ fn replace_found(
     raw: &[u8],
     s: &[u8],
     number: usize,
+    found: Found,
     text: &[u8],
     row: NewCueRow,
     out: &mut [u8],
 ) -> Replacing
-    requires { ⌜ (Readable (now raw) (now s)) × (number < length (lists (now s) .cues)) × (newCueFails (now text) row (regionNames (now s)) ≡ none) ⌝ }
+    requires { ⌜ (now s ≡ plainText (now raw)) × (FoundIn (now s) number (nameLent (now text) row) found) × (number < found .cues) × (newCueFails (now text) row (regionNames (now s)) ≡ none) ⌝ }
     ensures { λ r. ⌜ Outcome (newFile (now (raw .entry)) number (now (text .entry)) row) (now (out .entry)) (gapAnswer (now (raw .entry)) number (now (text .entry)) row (length (now (out .entry)))) r (now (out .exit)) ⌝ }
 {
-    let own = finding::find_cue(s, number);
+    let own = found.own;
     let place = rows::new_cue_id(row);
     let id = part(text, place.from, place.to);
     if lacks_gap(s, own.from, id) {
@@ -121,37 +122,39 @@ fn replace_there(
     raw: &[u8],
     s: &[u8],
     number: usize,
+    found: Found,
     text: &[u8],
     row: NewCueRow,
     out: &mut [u8],
 ) -> Replacing
-    requires { ⌜ (Readable (now raw) (now s)) × (number < length (lists (now s) .cues)) ⌝ }
+    requires { ⌜ (now s ≡ plainText (now raw)) × (FoundIn (now s) number (nameLent (now text) row) found) × (number < found .cues) ⌝ }
     ensures { λ r. ⌜ Outcome (newFile (now (raw .entry)) number (now (text .entry)) row) (now (out .entry)) (testedAnswer (now (raw .entry)) number (now (text .entry)) row (length (now (out .entry)))) r (now (out .exit)) ⌝ }
 {
-    let test = testing::new_cue_test(s, text, row);
+    let test = testing::new_cue_test(text, row, found.named);
     if test != 0 {
         return Replacing::NotWritable { number, test };
     }
-    replace_found(raw, s, number, text, row, out)
+    replace_found(raw, s, number, found, text, row, out)
 }
 
-// Check 7 and those behind it, in a file with this many cues.
+// Check 7 and those behind it, in a file that has this.
 fn replace_counted(
     raw: &[u8],
     s: &[u8],
-    count: usize,
     number: usize,
+    found: Found,
     text: &[u8],
     row: NewCueRow,
     out: &mut [u8],
 ) -> Replacing
-    requires { ⌜ (Readable (now raw) (now s)) × (count ≡ length (lists (now s) .cues)) ⌝ }
+    requires { ⌜ (now s ≡ plainText (now raw)) × (FoundIn (now s) number (nameLent (now text) row) found) ⌝ }
     ensures { λ r. ⌜ Outcome (newFile (now (raw .entry)) number (now (text .entry)) row) (now (out .entry)) (countedAnswer (now (raw .entry)) number (now (text .entry)) row (length (now (out .entry)))) r (now (out .exit)) ⌝ }
 {
+    let count = found.cues;
     if count <= number {
         return Replacing::NoSuchCue(count);
     }
-    replace_there(raw, s, number, text, row, out)
+    replace_there(raw, s, number, found, text, row, out)
 }
 
 // The checks behind converting, in the file's plain text.
@@ -163,13 +166,15 @@ fn replace_in(
     row: NewCueRow,
     out: &mut [u8],
 ) -> Replacing
-    requires { ⌜ (now s ≡ plainText (now raw)) × (length (now raw) ≤ maxFile) ⌝ }
+    requires { ⌜ now s ≡ plainText (now raw) ⌝ }
     ensures { λ r. ⌜ Outcome (newFile (now (raw .entry)) number (now (text .entry)) row) (now (out .entry)) (replacingText (now (raw .entry)) number (now (text .entry)) row (length (now (out .entry)))) r (now (out .exit)) ⌝ }
 {
-    match counting::count_cues(s) {
-        Counted::NoSignature => Replacing::NoSignature,
-        Counted::OverLimit => Replacing::OverLimit,
-        Counted::Cues(count) => replace_counted(raw, s, count, number, text, row, out),
+    let place = rows::new_cue_name(row);
+    let name = part(text, place.from, place.to);
+    match finding::survey(s, number, name) {
+        Surveyed::NoSignature => Replacing::NoSignature,
+        Surveyed::OverLimit => Replacing::OverLimit,
+        Surveyed::Readable(found) => replace_counted(raw, s, number, found, text, row, out),
     }
 }
 

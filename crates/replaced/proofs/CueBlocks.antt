@@ -5,25 +5,26 @@ use mathlib.Core.Bool.{Bool, true, false, not, _&&_, _||_, true≢false, false�
 use mathlib.Core.List.{List, [], _∷_, _++_, map, append-assoc}
 use native.Mathlib.Omega.{arith}
 use lib.Dec.{eqb, ltb}
-use lib.ListN.{length, getD, set, take, drop, length-append, length-map}
+use lib.ListN.{length, getD, set, take, drop, length-append}
 use lib.Seq.{take-at, drop-at, getD-append-add}
 use borrow.Author.Tests.{eqb-true, ltb-true, ltb-false, not-false}
 use Rattle.format.specs.Bytes.{ascii, lf}
-use Rattle.format.specs.Texts.{Part, startsWith, isEmpty}
+use Rattle.format.specs.Texts.{startsWith, isEmpty}
 use Rattle.format.specs.Lines.{split, onFirst, before}
-use Rattle.format.specs.Blocks.{hasSignature, linesAt, between, header, inside, stops, collected, blocksFrom, behind}
-use Rattle.format.specs.Blocks.{behindSignature, bytesOf}
-use Rattle.format.specs.Lists.{Cue, Item, nothing, cue, style, region, meaning, isCue, succeeded, itemsFrom, items, Lists, into, listed, lists, itemOver, anyOver}
+use Rattle.format.specs.Blocks.{Line, hasSignature, linesAt, between, header, inside, stops, collected, blocksFrom}
+use Rattle.format.specs.Blocks.{behindSignature, blocks, bytesOf}
+use Rattle.format.specs.Lists.{Cue, Item, nothing, cue, style, region, meaning, isCue, itemsFrom, items, Lists, into, listed, lists, itemOver, anyOver}
 use Rattle.format.specs.Contents.{CueContents, RegionContents, cueContents, contents}
 use Rattle.format.specs.Written.{writtenTiming, linesOf, cueLines}
-use Rattle.format.specs.Replacing.{numbered, blockOfCue, cueBlocksFrom, cueBlocks, firstNumber, firstLine, lineBefore, withCue}
+use Rattle.format.specs.Replacing.{blockOfCue, cueBlocksFrom, cueBlocks, firstNumber, firstLine, lineBefore, withCue}
 use Rattle.laws.proofs.Tests.{and-left, or-first, or-second, by-test}
 use Rattle.laws.proofs.Lines.{Split, splits}
 use Rattle.laws.proofs.Standing.{bytes-append, bytes-lines}
-use Rattle.laws.proofs.Lists.{items-append}
+use Rattle.laws.proofs.Blocks.{behind}
+use Rattle.laws.proofs.Lists.{succeeded, items-append}
 use Rattle.roundtrip.proofs.Cues.{CueWritable, timing-arrow}
 use Rattle.roundtrip.proofs.Files.{cue-read, ids-contents, cue-blocks}
-use Rattle.replaced.proofs.Places.{contents-placed, over-placed, bytes-numbered}
+use Rattle.replaced.proofs.Places.{contents-placed, over-placed}
 use Rattle.replaced.proofs.OneBlock.{Stop, Begun, begun, stops-timed, blocks-with, gap-before, timed-once, written-begins}
 
 -- an item that is a cue
@@ -33,7 +34,7 @@ record IsCue (i : Item) : Type 0 where
   is : i ≡ cue values over
 
 -- a block gives a cue and is the block of one, or does neither
-module _ (b : List Part) where
+module _ (b : List Line) where
   one-cue : (i : Item) (k : ℕ) → k < length (blockOfCue i b) → (k ≡ 0) × IsCue i
   unfolding blockOfCue
   one-cue nothing k h = absurd (omega arith)
@@ -41,7 +42,7 @@ module _ (b : List Part) where
   one-cue (style text) k h = absurd (omega arith)
   one-cue (region r over) k h = absurd (omega arith)
 
-  pub cues-into : (i : Item) (l : Lists) → length (into i l .cues) ≡ length (blockOfCue i b) + length (l .cues)
+  cues-into : (i : Item) (l : Lists) → length (into i l .cues) ≡ length (blockOfCue i b) + length (l .cues)
   unfolding blockOfCue into
   cues-into nothing l = omega arith
   cues-into (cue c over) l = omega arith
@@ -49,16 +50,16 @@ module _ (b : List Part) where
   cues-into (region r over) l = omega arith
 
 -- the block that gives the k-th cue, among all blocks
-record CueAt (seen : Bool) (bs : List (List Part)) (k : ℕ) : Type 0 where
-  earlier : List (List Part)
-  block : List Part
-  later : List (List Part)
+record CueAt (seen : Bool) (bs : List (List Line)) (k : ℕ) : Type 0 where
+  earlier : List (List Line)
+  block : List Line
+  later : List (List Line)
   is : bs ≡ earlier ++ block ∷ later
   found : getD (cueBlocksFrom seen bs) k [] ≡ block
   count : length (listed (itemsFrom seen earlier) .cues) ≡ k
   gives : IsCue (meaning (succeeded seen earlier) block)
 
-module _ (seen : Bool) (b : List Part) (bs : List (List Part)) where
+module _ (seen : Bool) (b : List Line) (bs : List (List Line)) where
   abbrev first : Item
   first = meaning seen b
 
@@ -94,7 +95,7 @@ module _ (seen : Bool) (b : List Part) (bs : List (List Part)) where
       let e : k ≡ n + (k - n) = omega arith in
       rw e (cue-behind (k - n) (again (k - n) (omega (arith, cues-into b first (listed (itemsFrom (seen || isCue first) bs)))))))
 
-cue-at : (seen : Bool) (bs : List (List Part)) (k : ℕ) → k < length (listed (itemsFrom seen bs) .cues) → CueAt seen bs k
+cue-at : (seen : Bool) (bs : List (List Line)) (k : ℕ) → k < length (listed (itemsFrom seen bs) .cues) → CueAt seen bs k
 unfolding itemsFrom listed
 cue-at seen [] k h = absurd (omega arith)
 cue-at seen (b ∷ bs) k h = cue-step seen b bs k h (cue-at (seen || isCue (meaning seen b)) bs)
@@ -134,24 +135,24 @@ over-set (i ∷ is) js c d o e =
 
 -- the items of blocks of which one gives a cue
 items-cue :
-    (seen : Bool) (bs : List (List Part)) (b : List Part) (cs : List (List Part)) (c : Cue) (o : Bool)
+    (seen : Bool) (bs : List (List Line)) (b : List Line) (cs : List (List Line)) (c : Cue) (o : Bool)
     → meaning (succeeded seen bs) b ≡ cue c o
     → itemsFrom seen (bs ++ b ∷ cs) ≡ itemsFrom seen bs ++ cue c o ∷ itemsFrom (succeeded seen bs || true) cs
 unfolding itemsFrom isCue
 items-cue seen bs b cs c o e = items-append seen bs (b ∷ cs) ∙ rw e
 
--- the place of a line among numbered lines
-place-numbered :
-    (n : ℕ) (ls : List (List ℕ)) (xs : List Part) (l : Part) (ys : List Part)
-    → numbered n ls ≡ xs ++ l ∷ ys
-    → l .place ≡ n + length xs
-unfolding numbered
-place-numbered n [] [] l ys e = cc
-place-numbered n [] (x ∷ xs) l ys e = cc
-place-numbered n (k ∷ ls) [] l ys e = let p : l .place ≡ n = cc in omega arith
-place-numbered n (k ∷ ls) (x ∷ xs) l ys e = omega (arith, place-numbered (suc n) ls xs l ys (cc))
+-- the number of a line among a text's lines
+number-at :
+    (n p : ℕ) (ls : List (List ℕ)) (xs : List Line) (l : Line) (ys : List Line)
+    → linesAt n p ls ≡ xs ++ l ∷ ys
+    → l .number ≡ n + length xs
+unfolding linesAt
+number-at n p [] [] l ys e = cc
+number-at n p [] (x ∷ xs) l ys e = cc
+number-at n p (k ∷ ls) [] l ys e = let m : l .number ≡ n = cc in omega arith
+number-at n p (k ∷ ls) (x ∷ xs) l ys e = omega (arith, number-at (suc n) (p + suc (length k)) ls xs l ys (cc))
 
-pub length-bytes : (ls : List Part) → length (bytesOf ls) ≡ length ls
+pub length-bytes : (ls : List Line) → length (bytesOf ls) ≡ length ls
 unfolding bytesOf
 length-bytes [] = refl
 length-bytes (l ∷ ls) = ap suc (length-bytes ls)
@@ -160,38 +161,25 @@ length-bytes (l ∷ ls) = ap suc (length-bytes ls)
 -- before and behind it
 record Around (s : List ℕ) (number : ℕ) : Type 0 where
   title : List ℕ
-  xs : List Part
-  first : Part
-  others : List Part
-  ys : List Part
-  lines : numbered 0 (split s) ≡ record { place = 0; bytes = title } ∷ (xs ++ (first ∷ (others ++ ys)))
+  xs : List Line
+  first : Line
+  others : List Line
+  ys : List Line
+  lines : linesAt 0 0 (split s) ≡ record { number = 0; place = 0; bytes = title } ∷ (xs ++ (first ∷ (others ++ ys)))
   block : getD (cueBlocks s) number [] ≡ first ∷ others
-  place : first .place ≡ suc (length xs)
+  counted : first .number ≡ suc (length xs)
   begins : stops (behind header xs) first ≡ true
   full : isEmpty (first .bytes) ≡ false
   ends : Stop (inside (first ∷ others)) ys
-  blocks : behindSignature (numbered 0 (split s)) ≡ blocksFrom header xs ++ (first ∷ others) ∷ blocksFrom between ys
+  divides : blocks s ≡ blocksFrom header xs ++ (first ∷ others) ∷ blocksFrom between ys
   count : length (listed (itemsFrom false (blocksFrom header xs)) .cues) ≡ number
   gives : IsCue (meaning (succeeded false (blocksFrom header xs)) (first ∷ others))
 
--- a text has as many cues as its lines give with any places
-cues-placed :
-    (s : List ℕ) (ls : List Part)
-    → bytesOf ls ≡ split s
-    → length (lists s .cues) ≡ length (listed (itemsFrom false (behindSignature ls)) .cues)
-unfolding contents
-cues-placed s ls e =
-    let l = lists s in
-    let m = listed (itemsFrom false (behindSignature ls)) in
-    sym (length-map (l .cues) (cueContents (l .regions)))
-    ∙ ap (λ c. length (c .cues)) (contents-placed s ls e)
-    ∙ length-map (m .cues) (cueContents (m .regions))
-
 around-of :
-    (s : List ℕ) (number : ℕ) (t : Split s) (a : CueAt false (behindSignature (numbered 0 (split s))) number)
-    → Begun header (numbered 1 (t .rest)) (a .earlier) (a .block) (a .later)
+    (s : List ℕ) (number : ℕ) (t : Split s) (a : CueAt false (blocks s) number)
+    → Begun header (linesAt 1 (0 + suc (length (t .first))) (t .rest)) (a .earlier) (a .block) (a .later)
     → Around s number
-unfolding numbered cueBlocks
+unfolding linesAt cueBlocks
 around-of s number t a g =
     let r = g .rest in
     record {
@@ -201,26 +189,26 @@ around-of s number t a g =
       others = r .more;
       ys = r .ys;
       lines =
-          ap (numbered 0) (t .is)
-          ∙ ap (λ k. record { place = 0; bytes = t .first } ∷ k) (g .lines ∙ ap (λ k. g .xs ++ g .first ∷ k) (r .lines));
+          ap (linesAt 0 0) (t .is)
+          ∙ ap (λ k. record { number = 0; place = 0; bytes = t .first } ∷ k) (g .lines ∙ ap (λ k. g .xs ++ g .first ∷ k) (r .lines));
       block = a .found ∙ r .is;
-      place = omega (arith, place-numbered 1 (t .rest) (g .xs) (g .first) (g .others) (g .lines));
+      counted = omega (arith, number-at 1 (0 + suc (length (t .first))) (t .rest) (g .xs) (g .first) (g .others) (g .lines));
       begins = g .begins;
       full = g .full;
       ends = subst (λ b. Stop (inside b) (r .ys)) (r .is) (r .ends);
-      blocks = a .is ∙ ap₂ (λ x y. x ++ y) (sym (g .earlier)) (ap₂ (λ x y. x ∷ y) (r .is) (sym (r .later)));
+      divides = a .is ∙ ap₂ (λ x y. x ++ y) (sym (g .earlier)) (ap₂ (λ x y. x ∷ y) (r .is) (sym (r .later)));
       count = ap (λ x. length (listed (itemsFrom false x) .cues)) (g .earlier) ∙ a .count;
       gives = subst₂ (λ x b. IsCue (meaning (succeeded false x) b)) (sym (g .earlier)) (r .is) (a .gives);
     }
 
 around : (s : List ℕ) (number : ℕ) → number < length (lists s .cues) → Around s number
-unfolding numbered behindSignature collected
+unfolding lists items blocks linesAt behindSignature collected
 around s number h =
     let t = splits s in
-    let ls = numbered 0 (split s) in
-    let a = cue-at false (behindSignature ls) number (omega (arith, cues-placed s ls (bytes-numbered 0 (split s)))) in
-    let e : blocksFrom header (numbered 1 (t .rest)) ≡ behindSignature ls = sym (ap (λ k. behindSignature (numbered 0 k)) (t .is)) in
-    around-of s number t a (begun (a .block) (a .later) header (numbered 1 (t .rest)) (a .earlier) (e ∙ a .is) (omega arith))
+    let rest = linesAt 1 (0 + suc (length (t .first))) (t .rest) in
+    let a = cue-at false (blocks s) number h in
+    let e : blocksFrom header rest ≡ blocks s = sym (ap (λ k. behindSignature (linesAt 0 0 k)) (t .is)) in
+    around-of s number t a (begun (a .block) (a .later) header rest (a .earlier) (e ∙ a .is) (omega arith))
 
 -- where the block of a cue stands among the lines
 pub record CueBlock (s : List ℕ) (number : ℕ) : Type 0 where
@@ -231,7 +219,7 @@ pub record CueBlock (s : List ℕ) (number : ℕ) : Type 0 where
 module _ (s : List ℕ) (number : ℕ) (a : Around s number) where
   first-line : firstLine s number ≡ suc (length (a .xs))
   unfolding firstLine firstNumber
-  first-line = ap firstNumber (a .block) ∙ a .place
+  first-line = ap firstNumber (a .block) ∙ a .counted
 
   block-length : length (getD (cueBlocks s) number []) ≡ suc (length (a .others))
   block-length = ap length (a .block)
@@ -246,7 +234,7 @@ module _ (s : List ℕ) (number : ℕ) (a : Around s number) where
   lines-around : split s ≡ front-lines ++ (own-lines ++ bytesOf (a .ys))
   unfolding bytesOf
   lines-around =
-      sym (bytes-numbered 0 (split s))
+      sym (bytes-lines 0 0 (split s))
       ∙ ap bytesOf (a .lines)
       ∙ ap (λ r. a .title ∷ r)
       (bytes-append (a .xs) (a .first ∷ (a .others ++ a .ys)) ∙ ap (λ r. bytesOf (a .xs) ++ a .first .bytes ∷ r) (bytes-append (a .others) (a .ys)))
@@ -301,12 +289,12 @@ module _ (s : List ℕ) (number : ℕ) (asked : CueContents) (a : Around s numbe
   abbrev rs : List RegionContents
   rs = contents (lists s) .regions
 
-  abbrev new : List Part
-  new = linesAt 0 (cueLines rs asked)
+  abbrev new : List Line
+  new = linesAt 0 0 (cueLines rs asked)
 
   -- the lines with the new ones in the place of the block's
-  abbrev placed : List Part
-  placed = record { place = 0; bytes = a .title } ∷ (a .xs ++ (new ++ a .ys))
+  abbrev placed : List Line
+  placed = record { number = 0; place = 0; bytes = a .title } ∷ (a .xs ++ (new ++ a .ys))
 
   placed-bytes :
       bytesOf placed
@@ -316,7 +304,7 @@ module _ (s : List ℕ) (number : ℕ) (asked : CueContents) (a : Around s numbe
   unfolding bytesOf
   placed-bytes =
       rw (lines-before s number a, lines-behind s number a, append-assoc (front-lines s number a) (cueLines rs asked) (bytesOf (a .ys)))
-      (rw (bytes-append (a .xs) (new ++ a .ys), bytes-append new (a .ys), bytes-lines 0 (cueLines rs asked)))
+      (rw (bytes-append (a .xs) (new ++ a .ys), bytes-append new (a .ys), bytes-lines 0 0 (cueLines rs asked)))
 
   -- the line before the block is empty where an identifier is to come
   block-gap :
@@ -333,10 +321,10 @@ module _ (s : List ℕ) (number : ℕ) (asked : CueContents) (a : Around s numbe
       let empty : isEmpty (lineBefore s number) ≡ true = not-false (isEmpty (lineBefore s number)) (rw f at g) in
       gap-before header (a .title) (a .xs) rest (λ y. absurd (true≢false (sym y ∙ full))) (rw (n, around) at empty)
 
-  abbrev earlier : List (List Part)
+  abbrev earlier : List (List Line)
   earlier = blocksFrom header (a .xs)
 
-  abbrev later : List (List Part)
+  abbrev later : List (List Line)
   later = blocksFrom between (a .ys)
 
   placed-blocks :
@@ -345,10 +333,10 @@ module _ (s : List ℕ) (number : ℕ) (asked : CueContents) (a : Around s numbe
       → behindSignature placed ≡ earlier ++ new ∷ later
   unfolding behindSignature cueLines
   placed-blocks w gap =
-      blocks-with header (a .xs) 0 (cueLines rs asked) (a .ys) (cue-blocks rs asked w .closed)
+      blocks-with header (a .xs) 0 0 (cueLines rs asked) (a .ys) (cue-blocks rs asked w .closed)
       (written-begins (behind header (a .xs)) (a .first) rs asked (a .ys) (a .begins) (a .full) gap)
       (stops-timed (a .first ∷ a .others) new (a .ys)
-      (timed-once 0 (linesOf (asked .id)) (writtenTiming rs asked) (linesOf (asked .text)) (timing-arrow rs asked))
+      (timed-once 0 0 (linesOf (asked .id)) (writtenTiming rs asked) (linesOf (asked .text)) (timing-arrow rs asked))
       (a .ends))
 
   -- a text of these lines
@@ -359,19 +347,18 @@ module _ (s : List ℕ) (number : ℕ) (asked : CueContents) (a : Around s numbe
       → CueWritable rs asked
       → anyOver (items s) ≡ false
       → Reads s t number asked
-  unfolding contents
-  reads t bytes blocks w over =
+  unfolding contents lists items
+  reads t bytes divides w over =
       let seen = succeeded false earlier in
       let is = itemsFrom false earlier in
       let js = itemsFrom (seen || true) later in
-      let ls = numbered 0 (split s) in
       let c = a .gives in
-      let old = ap (itemsFrom false) (a .blocks) ∙ items-cue false earlier (a .first ∷ a .others) later (c .values) (c .over) (c .is) in
+      let old = ap (itemsFrom false) (a .divides) ∙ items-cue false earlier (a .first ∷ a .others) later (c .values) (c .over) (c .is) in
       let l = listed (is ++ cue (c .values) (c .over) ∷ js) in
-      let was = contents-placed s ls (bytes-numbered 0 (split s)) ∙ ap (λ i. contents (listed i)) old in
+      let was : contents (lists s) ≡ contents l = ap (λ i. contents (listed i)) old in
       let names = ids-contents (l .regions) ∙ ap (λ k. map (λ r. r .id) (k .regions)) (sym was) in
       let d = cue-read rs (l .regions) seen asked names w in
-      let now = ap (itemsFrom false) blocks ∙ items-cue false earlier new later (d .values) false (d .is) in
+      let now = ap (itemsFrom false) divides ∙ items-cue false earlier new later (d .values) false (d .is) in
       record {
         same =
             contents-placed t placed bytes
@@ -383,8 +370,7 @@ module _ (s : List ℕ) (number : ℕ) (asked : CueContents) (a : Around s numbe
         within =
             over-placed t placed bytes
             ∙ ap anyOver now
-            ∙ over-set is js (c .values) (d .values) (c .over)
-            (sym (over-placed s ls (bytes-numbered 0 (split s)) ∙ ap anyOver old) ∙ over);
+            ∙ over-set is js (c .values) (d .values) (c .over) (sym (ap anyOver old) ∙ over);
       }
 
 -- (without the signature, an empty first line may stand right before the block, and an identifier would go into the header block)

@@ -11,7 +11,7 @@ use Rattle.format.specs.Texts.{Part, nowhere, all, behindFirst}
 use Rattle.format.specs.Tokens.{inToken, onToken, beforeTokens, tokens, valueOf}
 use Rattle.format.specs.RegionSettings.{RegionValues, takenRegion, openingRegion, regionSettings}
 use Rattle.format.specs.TimingLines.{Timing, timingLine}
-use Rattle.format.specs.Blocks.{holdsArrow, blocks, joined}
+use Rattle.format.specs.Blocks.{Line, linePart, holdsArrow, blocks, joined}
 use Rattle.format.specs.Lists.{Item, nothing, cue, style, region, cueOf, regionOf, isWord, definition, meaning, isCue, itemsFrom, items, into, listed, lists}
 use Rattle.format.specs.Rows.{ids}
 use Rattle.laws.proofs.Tests.{by-test, and-right}
@@ -60,18 +60,18 @@ DarkItem (cue c over) = Unit
 DarkItem (style text) = Unit
 DarkItem (region r over) = Dark (r .id)
 
-dark-cue : (id : Part) (ls : List Part) (o : Option Timing) → DarkItem (cueOf id ls o)
+dark-cue : (id : Part) (ls : List Line) (o : Option Timing) → DarkItem (cueOf id ls o)
 unfolding cueOf
 dark-cue id ls none = tt
 dark-cue id ls (some t) = tt
 
-dark-meaning : (seen : Bool) (b : List Part) → DarkItem (meaning seen b)
+dark-meaning : (seen : Bool) (b : List Line) → DarkItem (meaning seen b)
 unfolding meaning definition regionOf
 dark-meaning seen [] = tt
-dark-meaning seen (first ∷ []) = either DarkItem (holdsArrow (first .bytes)) (dark-cue nowhere [] (timingLine first)) tt
+dark-meaning seen (first ∷ []) = either DarkItem (holdsArrow (first .bytes)) (dark-cue nowhere [] (timingLine (linePart first))) tt
 dark-meaning seen (first ∷ (second ∷ ls)) =
-    either DarkItem (holdsArrow (first .bytes)) (dark-cue nowhere (second ∷ ls) (timingLine first))
-    (either DarkItem (holdsArrow (second .bytes)) (dark-cue first ls (timingLine second))
+    either DarkItem (holdsArrow (first .bytes)) (dark-cue nowhere (second ∷ ls) (timingLine (linePart first)))
+    (either DarkItem (holdsArrow (second .bytes)) (dark-cue (linePart first) ls (timingLine (linePart second)))
     (either DarkItem seen tt
     (either DarkItem (isWord (ascii "STYLE") (first .bytes)) tt
     (either DarkItem (isWord (ascii "REGION") (first .bytes)) (dark-region (joined (second ∷ ls))) tt))))
@@ -83,7 +83,7 @@ dark-into (cue c over) is h k = k
 dark-into (style text) is h k = k
 dark-into (region r over) is h k = (h, k)
 
-dark-items : (seen : Bool) (bs : List (List Part)) → All (λ r. Dark (r .id)) (listed (itemsFrom seen bs) .regions)
+dark-items : (seen : Bool) (bs : List (List Line)) → All (λ r. Dark (r .id)) (listed (itemsFrom seen bs) .regions)
 unfolding itemsFrom listed
 dark-items seen [] = tt
 dark-items seen (b ∷ bs) =

@@ -6,38 +6,38 @@ use mathlib.Core.List.{List, [], _∷_, _++_, append-nil}
 use native.Mathlib.Omega.{arith}
 use lib.ListN.{length, getD, length-append}
 use lib.Seq.{append-snoc}
-use Rattle.format.specs.Texts.{Part, isEmpty}
-use Rattle.format.specs.Blocks.{linesAt, holdsArrow, Collecting, between, header, inside, canTime, stops, begin, goOn, collected, ended, next}
-use Rattle.format.specs.Blocks.{blocksFrom, behind, bytesOf}
+use Rattle.format.specs.Texts.{isEmpty}
+use Rattle.format.specs.Blocks.{Line, linesAt, holdsArrow, Collecting, between, header, inside, canTime, stops, begin, goOn, collected, ended, next}
+use Rattle.format.specs.Blocks.{blocksFrom, bytesOf}
 use Rattle.format.specs.Contents.{CueContents, RegionContents}
 use Rattle.format.specs.Writable.{noneEmpty}
 use Rattle.format.specs.Written.{writtenTiming, linesOf, cueLines}
 use Rattle.laws.proofs.Tests.{by-test, and-left, and-right, or-true}
-use Rattle.laws.proofs.Blocks.{cut}
+use Rattle.laws.proofs.Blocks.{behind, cut}
 use Rattle.roundtrip.proofs.Shape.{not-left, Closed, closed-block, timed}
 use Rattle.roundtrip.proofs.Cues.{timing-arrow}
 
 -- the first of these lines, if any, stops collecting
-abbrev pub Stop : Collecting → List Part → Type 0
+abbrev pub Stop : Collecting → List Line → Type 0
 Stop st [] = Unit
 Stop st (l ∷ ls) = stops st l ≡ true
 
 -- a file divides there
-cut-at : (st : Collecting) (xs ys : List Part) → Stop (behind st xs) ys → blocksFrom st (xs ++ ys) ≡ blocksFrom st xs ++ blocksFrom between ys
+cut-at : (st : Collecting) (xs ys : List Line) → Stop (behind st xs) ys → blocksFrom st (xs ++ ys) ≡ blocksFrom st xs ++ blocksFrom between ys
 unfolding blocksFrom collected
 cut-at st xs [] h = rw (append-nil xs, append-nil (blocksFrom st xs))
 cut-at st xs (l ∷ ys) h = cut st xs l ys h
 
 -- the block of which the lines acc have been collected, its other lines and those behind it
-pub record Rest (acc ls b : List Part) (after : List (List Part)) : Type 0 where
-  pub more : List Part
-  pub ys : List Part
+pub record Rest (acc ls b : List Line) (after : List (List Line)) : Type 0 where
+  pub more : List Line
+  pub ys : List Line
   pub lines : ls ≡ more ++ ys
   pub is : b ≡ acc ++ more
   pub ends : Stop (inside b) ys
   pub later : blocksFrom between ys ≡ after
 
-rest : (acc ls b : List Part) (after : List (List Part)) → blocksFrom (inside acc) ls ≡ b ∷ after → Rest acc ls b after
+rest : (acc ls b : List Line) (after : List (List Line)) → blocksFrom (inside acc) ls ≡ b ∷ after → Rest acc ls b after
 unfolding blocksFrom collected ended next goOn stops
 rest acc [] b after e =
     let same : b ≡ acc = cc in
@@ -60,10 +60,10 @@ rest acc (l ∷ ls) b after e =
     })
 
 -- a block that begins in these lines, where it does, and the lines and blocks before it
-pub record Begun (st : Collecting) (ls : List Part) (before : List (List Part)) (b : List Part) (after : List (List Part)) : Type 0 where
-  pub xs : List Part
-  pub first : Part
-  pub others : List Part
+pub record Begun (st : Collecting) (ls : List Line) (before : List (List Line)) (b : List Line) (after : List (List Line)) : Type 0 where
+  pub xs : List Line
+  pub first : Line
+  pub others : List Line
   pub lines : ls ≡ xs ++ first ∷ others
   pub begins : stops (behind st xs) first ≡ true
   pub full : isEmpty (first .bytes) ≡ false
@@ -71,22 +71,22 @@ pub record Begun (st : Collecting) (ls : List Part) (before : List (List Part)) 
   pub rest : Rest (first ∷ []) others b after
 
 -- where collecting stands behind an empty line, and behind a line that begins a block
-next-empty : (st : Collecting) (l : Part) → isEmpty (l .bytes) ≡ true → next st l ≡ between
+next-empty : (st : Collecting) (l : Line) → isEmpty (l .bytes) ≡ true → next st l ≡ between
 unfolding next stops begin
 next-empty between l e = rw e
 next-empty header l e = rw e
 next-empty (inside ls) l e = rw e
 
-next-full : (st : Collecting) (l : Part) → stops st l ≡ true → isEmpty (l .bytes) ≡ false → next st l ≡ inside (l ∷ [])
+next-full : (st : Collecting) (l : Line) → stops st l ≡ true → isEmpty (l .bytes) ≡ false → next st l ≡ inside (l ∷ [])
 unfolding next begin
 next-full st l y e = rw (y, e)
 
-ended-few : (st : Collecting) (l : Part) → length (ended st l) ≤ length (collected st)
+ended-few : (st : Collecting) (l : Line) → length (ended st l) ≤ length (collected st)
 unfolding ended
 ended-few st l = by-test (stops st l) (λ y. rw y (omega arith)) (λ n. rw n (omega arith))
 
 -- a line that goes on opens no block
-opens-none : (st : Collecting) (l : Part) → stops st l ≡ false → length (collected (next st l)) ≤ length (collected st)
+opens-none : (st : Collecting) (l : Line) → stops st l ≡ false → length (collected (next st l)) ≤ length (collected st)
 unfolding next goOn collected stops
 opens-none between l n = absurd (true≢false n)
 opens-none header l n = rw n (omega arith)
@@ -111,10 +111,10 @@ front (x ∷ a) c (y ∷ p) q e n =
     let h = front a c p q (cc) (omega arith) in
     record { more = h .more; is = ap₂ (λ u v. u ∷ v) (cc) (h .is); same = h .same }
 
-module _ (b : List Part) (after : List (List Part)) where
+module _ (b : List Line) (after : List (List Line)) where
   -- one more line before the block's first, and the block's first line
   begun-next :
-      (st : Collecting) (l : Part) (ls : List Part) (before : List (List Part))
+      (st : Collecting) (l : Line) (ls : List Line) (before : List (List Line))
       → Begun (next st l) ls before b after
       → Begun st (l ∷ ls) (ended st l ++ before) b after
   unfolding behind blocksFrom
@@ -131,7 +131,7 @@ module _ (b : List Part) (after : List (List Part)) where
       }
 
   begun-here :
-      (st : Collecting) (l : Part) (ls : List Part)
+      (st : Collecting) (l : Line) (ls : List Line)
       → stops st l ≡ true
       → isEmpty (l .bytes) ≡ false
       → blocksFrom (inside (l ∷ [])) ls ≡ b ∷ after
@@ -151,7 +151,7 @@ module _ (b : List Part) (after : List (List Part)) where
 
   -- the first line, where what it ends stands before the other blocks
   begun-step :
-      (st : Collecting) (l : Part) (ls : List Part) (before : List (List Part))
+      (st : Collecting) (l : Line) (ls : List Line) (before : List (List Line))
       → blocksFrom (next st l) ls ≡ before ++ b ∷ after
       → length (collected st) ≤ length (ended st l ++ before)
       → (length (collected (next st l)) ≤ length before → Begun (next st l) ls before b after)
@@ -166,10 +166,10 @@ module _ (b : List Part) (after : List (List Part)) where
   begun-step st l ls (a ∷ before) e k again = begun-next st l ls (a ∷ before) (again (omega (arith, one-open (next st l))))
 
   begun-line :
-      (st : Collecting) (l : Part) (ls : List Part) (before : List (List Part))
+      (st : Collecting) (l : Line) (ls : List Line) (before : List (List Line))
       → ended st l ++ blocksFrom (next st l) ls ≡ before ++ b ∷ after
       → length (collected st) ≤ length before
-      → ((more : List (List Part))
+      → ((more : List (List Line))
       → blocksFrom (next st l) ls ≡ more ++ b ∷ after
       → length (collected (next st l)) ≤ length more
       → Begun (next st l) ls more b after)
@@ -180,7 +180,7 @@ module _ (b : List Part) (after : List (List Part)) where
 
   -- the block that follows these, where a block being collected is among them
   pub begun :
-      (st : Collecting) (ls : List Part) (before : List (List Part))
+      (st : Collecting) (ls : List Line) (before : List (List Line))
       → blocksFrom st ls ≡ before ++ b ∷ after
       → length (collected st) ≤ length before
       → Begun st ls before b after
@@ -190,7 +190,7 @@ module _ (b : List Part) (after : List (List Part)) where
 
 -- a line that holds `-->` stops what another line that is not empty stops
 stops-arrow :
-    (st : Collecting) (l w : Part)
+    (st : Collecting) (l w : Line)
     → isEmpty (l .bytes) ≡ false
     → holdsArrow (w .bytes) ≡ true
     → stops st l ≡ true
@@ -203,7 +203,7 @@ stops-arrow (inside ls) l w f a e =
     rw (a, and-right (holdsArrow (l .bytes)) (not (canTime ls)) h) (or-true (isEmpty (w .bytes)))
 
 -- what stops any block stops one whose timing line has been
-pub stops-timed : (b w ls : List Part) → canTime w ≡ false → Stop (inside b) ls → Stop (inside w) ls
+pub stops-timed : (b w ls : List Line) → canTime w ≡ false → Stop (inside b) ls → Stop (inside w) ls
 unfolding stops
 stops-timed b w [] t h = tt
 stops-timed b w (l ∷ ls) t h =
@@ -212,14 +212,14 @@ stops-timed b w (l ∷ ls) t h =
     (λ y. rw y)
     (λ n. let k : holdsArrow (l .bytes) && not (canTime b) ≡ true = rw n at h in rw (n, and-left (holdsArrow (l .bytes)) (not (canTime b)) k)))
 
-stop-between : (ls : List Part) → Stop between ls
+stop-between : (ls : List Line) → Stop between ls
 unfolding stops
 stop-between [] = tt
 stop-between (l ∷ ls) = refl
 
 -- behind an empty line collecting stands between two blocks
 pub gap-before :
-    (st : Collecting) (l : List ℕ) (xs : List Part) (rest : List (List ℕ))
+    (st : Collecting) (l : List ℕ) (xs : List Line) (rest : List (List ℕ))
     → (isEmpty l ≡ true → st ≡ between)
     → isEmpty (getD (l ∷ (bytesOf xs ++ rest)) (length xs) []) ≡ true
     → behind st xs ≡ between
@@ -228,28 +228,28 @@ gap-before st l [] rest h e = h e
 gap-before st l (x ∷ xs) rest h e = gap-before (next st x) (x .bytes) xs rest (next-empty st x) e
 
 -- lines with a timing line among them can have no other
-pub timed-once : (p : ℕ) (ks : List (List ℕ)) (t : List ℕ) (ls : List (List ℕ)) → holdsArrow t ≡ true → canTime (linesAt p (ks ++ t ∷ ls)) ≡ false
+pub timed-once : (n p : ℕ) (ks : List (List ℕ)) (t : List ℕ) (ls : List (List ℕ)) → holdsArrow t ≡ true → canTime (linesAt n p (ks ++ t ∷ ls)) ≡ false
 unfolding linesAt canTime
-timed-once p [] t [] a = rw a
-timed-once p [] t (l ∷ ls) a = refl
-timed-once p (k ∷ []) t ls a = refl
-timed-once p (k ∷ (m ∷ ks)) t ls a = refl
+timed-once n p [] t [] a = rw a
+timed-once n p [] t (l ∷ ls) a = refl
+timed-once n p (k ∷ []) t ls a = refl
+timed-once n p (k ∷ (m ∷ ks)) t ls a = refl
 
 -- a written cue begins where a block did, and with an identifier where collecting stands between two blocks
 pub written-begins :
-    (st : Collecting) (l : Part) (rs : List RegionContents) (c : CueContents) (ys : List Part)
+    (st : Collecting) (l : Line) (rs : List RegionContents) (c : CueContents) (ys : List Line)
     → stops st l ≡ true
     → isEmpty (l .bytes) ≡ false
     → (isEmpty (c .id) ≡ false → st ≡ between)
-    → Stop st (linesAt 0 (cueLines rs c) ++ ys)
+    → Stop st (linesAt 0 0 (cueLines rs c) ++ ys)
 unfolding cueLines linesOf linesAt
 written-begins st l rs c ys e f h =
     by-test (isEmpty (c .id))
-    (λ y. rw y (stops-arrow st l (record { place = 0; bytes = writtenTiming rs c }) f (timing-arrow rs c) e))
-    (λ n. rw (h n) (stop-between (linesAt 0 (cueLines rs c) ++ ys)))
+    (λ y. rw y (stops-arrow st l (record { number = 0; place = 0; bytes = writtenTiming rs c }) f (timing-arrow rs c) e))
+    (λ n. rw (h n) (stop-between (linesAt 0 0 (cueLines rs c) ++ ys)))
 
 -- where lines are one block, collecting stands inside it behind them
-inside-whole : (acc ls : List Part) → blocksFrom (inside acc) ls ≡ (acc ++ ls) ∷ [] → behind (inside acc) ls ≡ inside (acc ++ ls)
+inside-whole : (acc ls : List Line) → blocksFrom (inside acc) ls ≡ (acc ++ ls) ∷ [] → behind (inside acc) ls ≡ inside (acc ++ ls)
 unfolding blocksFrom behind collected ended next goOn
 inside-whole acc [] e = rw (append-nil acc)
 inside-whole acc (l ∷ ls) e =
@@ -261,24 +261,24 @@ inside-whole acc (l ∷ ls) e =
     rw n (rw (append-snoc acc l ls) at (inside-whole (acc ++ l ∷ []) ls (rw (append-snoc acc l ls) f))))
 
 -- so it is for lines that are one block by themselves
-closed-behind : (p : ℕ) (b : List (List ℕ)) → Closed b → behind between (linesAt p b) ≡ inside (linesAt p b)
+closed-behind : (n p : ℕ) (b : List (List ℕ)) → Closed b → behind between (linesAt n p b) ≡ inside (linesAt n p b)
 unfolding linesAt noneEmpty timed behind blocksFrom ended stops collected
-closed-behind p [] c = absurd (false≢true (c .once))
-closed-behind p (l ∷ ls) c =
-    let at : Part = record { place = p; bytes = l } in
-    let rest = linesAt (p + suc (length l)) ls in
+closed-behind n p [] c = absurd (false≢true (c .once))
+closed-behind n p (l ∷ ls) c =
+    let at : Line = record { number = n; place = p; bytes = l } in
+    let rest = linesAt (suc n) (p + suc (length l)) ls in
     let begun = next-full between at refl (not-left (isEmpty l) (noneEmpty ls) (c .full)) in
     ap (λ st. behind st rest) begun
-    ∙ inside-whole (at ∷ []) rest (sym (ap (λ st. blocksFrom st rest) begun) ∙ closed-block p (l ∷ ls) c)
+    ∙ inside-whole (at ∷ []) rest (sym (ap (λ st. blocksFrom st rest) begun) ∙ closed-block n p (l ∷ ls) c)
 
 -- such lines between others
 pub blocks-with :
-    (st : Collecting) (xs : List Part) (p : ℕ) (w : List (List ℕ)) (ys : List Part)
+    (st : Collecting) (xs : List Line) (n p : ℕ) (w : List (List ℕ)) (ys : List Line)
     → Closed w
-    → Stop (behind st xs) (linesAt p w ++ ys)
-    → Stop (inside (linesAt p w)) ys
-    → blocksFrom st (xs ++ (linesAt p w ++ ys)) ≡ blocksFrom st xs ++ linesAt p w ∷ blocksFrom between ys
-blocks-with st xs p w ys c begins ends =
-    cut-at st xs (linesAt p w ++ ys) begins
+    → Stop (behind st xs) (linesAt n p w ++ ys)
+    → Stop (inside (linesAt n p w)) ys
+    → blocksFrom st (xs ++ (linesAt n p w ++ ys)) ≡ blocksFrom st xs ++ linesAt n p w ∷ blocksFrom between ys
+blocks-with st xs n p w ys c begins ends =
+    cut-at st xs (linesAt n p w ++ ys) begins
     ∙ ap (λ r. blocksFrom st xs ++ r)
-    (cut-at between (linesAt p w) ys (rw (closed-behind p w c) ends) ∙ ap (λ r. r ++ blocksFrom between ys) (closed-block p w c))
+    (cut-at between (linesAt n p w) ys (rw (closed-behind n p w c) ends) ∙ ap (λ r. r ++ blocksFrom between ys) (closed-block n p w c))

@@ -1,83 +1,74 @@
--- What a text's lists hold does not depend on the places of its lines: they may stand at their bytes, at their numbers, or anywhere.
-use Prim.Native.Nat.{ℕ, suc}
+-- What a text's lists hold does not depend on the numbers and places of its lines.
+use Prim.Native.Nat.{ℕ}
 use mathlib.Core.Path.{_≡_, refl, sym, ap, _∙_}
 use mathlib.Core.Bool.{false}
 use mathlib.Core.List.{List, [], _∷_, map, map-append}
-use Rattle.format.specs.Texts.{Part, isEmpty}
+use Rattle.format.specs.Texts.{isEmpty}
 use Rattle.format.specs.Lines.{split}
-use Rattle.format.specs.Blocks.{linesAt, Collecting, between, header, inside, canTime, stops, begin, goOn, collected, ended, next, blocksFrom}
-use Rattle.format.specs.Blocks.{behindSignature, blocks, bytesOf}
+use Rattle.format.specs.Blocks.{Line, linesAt, Collecting, between, header, inside, canTime, stops, begin, goOn, collected, ended, next}
+use Rattle.format.specs.Blocks.{blocksFrom, behindSignature, blocks, bytesOf}
 use Rattle.format.specs.Lists.{itemsFrom, items, listed, lists, anyOver}
 use Rattle.format.specs.Contents.{contents}
-use Rattle.format.specs.Replacing.{numbered}
 use Rattle.laws.proofs.Tests.{by-test}
 use Rattle.laws.proofs.Standing.{bytes-lines}
-use Rattle.laws.proofs.Contents.{unplaced, contents-unplaced, over-unplaced}
+use Rattle.laws.proofs.Contents.{bareLine, unplaced, contents-unplaced, over-unplaced}
 
--- lines with other places, given by the old ones
-module _ (f : ℕ → ℕ) where
-  abbrev pub moved : Part → Part
-  moved l = record { place = f (l .place); bytes = l .bytes }
+-- where collecting stands with lines that have no numbers and places
+bareState : Collecting → Collecting
+bareState between = between
+bareState header = header
+bareState (inside ls) = inside (unplaced ls)
 
-  -- where collecting stands then
-  movedState : Collecting → Collecting
-  movedState between = between
-  movedState header = header
-  movedState (inside ls) = inside (map moved ls)
+stops-bare : (st : Collecting) (l : Line) → stops (bareState st) (bareLine l) ≡ stops st l
+unfolding stops bareState canTime
+stops-bare between l = refl
+stops-bare header l = refl
+stops-bare (inside []) l = refl
+stops-bare (inside (a ∷ [])) l = refl
+stops-bare (inside (a ∷ (b ∷ ls))) l = refl
 
-  stops-moved : (st : Collecting) (l : Part) → stops (movedState st) (moved l) ≡ stops st l
-  unfolding stops movedState canTime
-  stops-moved between l = refl
-  stops-moved header l = refl
-  stops-moved (inside []) l = refl
-  stops-moved (inside (a ∷ [])) l = refl
-  stops-moved (inside (a ∷ (b ∷ ls))) l = refl
+begin-bare : (l : Line) → begin (bareLine l) ≡ bareState (begin l)
+unfolding begin bareState
+begin-bare l = by-test (isEmpty (l .bytes)) (λ y. rw y) (λ n. rw n)
 
-  begin-moved : (l : Part) → begin (moved l) ≡ movedState (begin l)
-  unfolding begin movedState
-  begin-moved l = by-test (isEmpty (l .bytes)) (λ y. rw y) (λ n. rw n)
+on-bare : (st : Collecting) (l : Line) → goOn (bareState st) (bareLine l) ≡ bareState (goOn st l)
+unfolding goOn bareState
+on-bare between l = begin-bare l
+on-bare header l = refl
+on-bare (inside ls) l = rw (map-append bareLine ls (l ∷ []))
 
-  on-moved : (st : Collecting) (l : Part) → goOn (movedState st) (moved l) ≡ movedState (goOn st l)
-  unfolding goOn movedState
-  on-moved between l = begin-moved l
-  on-moved header l = refl
-  on-moved (inside ls) l = rw (map-append moved ls (l ∷ []))
+collected-bare : (st : Collecting) → collected (bareState st) ≡ map unplaced (collected st)
+unfolding collected bareState
+collected-bare between = refl
+collected-bare header = refl
+collected-bare (inside ls) = refl
 
-  collected-moved : (st : Collecting) → collected (movedState st) ≡ map (map moved) (collected st)
-  unfolding collected movedState
-  collected-moved between = refl
-  collected-moved header = refl
-  collected-moved (inside ls) = refl
+next-bare : (st : Collecting) (l : Line) → next (bareState st) (bareLine l) ≡ bareState (next st l)
+unfolding next
+next-bare st l =
+    by-test (stops st l)
+    (λ y. rw (stops-bare st l, y) (begin-bare l))
+    (λ n. rw (stops-bare st l, n) (on-bare st l))
 
-  next-moved : (st : Collecting) (l : Part) → next (movedState st) (moved l) ≡ movedState (next st l)
-  unfolding next
-  next-moved st l =
-      by-test (stops st l)
-      (λ y. rw (stops-moved st l, y) (begin-moved l))
-      (λ n. rw (stops-moved st l, n) (on-moved st l))
+ended-bare : (st : Collecting) (l : Line) → ended (bareState st) (bareLine l) ≡ map unplaced (ended st l)
+unfolding ended
+ended-bare st l =
+    by-test (stops st l)
+    (λ y. rw (stops-bare st l, y) (collected-bare st))
+    (λ n. rw (stops-bare st l, n))
 
-  ended-moved : (st : Collecting) (l : Part) → ended (movedState st) (moved l) ≡ map (map moved) (ended st l)
-  unfolding ended
-  ended-moved st l =
-      by-test (stops st l)
-      (λ y. rw (stops-moved st l, y) (collected-moved st))
-      (λ n. rw (stops-moved st l, n))
+blocks-bare : (st : Collecting) (ls : List Line) → blocksFrom (bareState st) (unplaced ls) ≡ map unplaced (blocksFrom st ls)
+unfolding blocksFrom
+blocks-bare st [] = collected-bare st
+blocks-bare st (l ∷ ls) =
+    rw (map-append unplaced (ended st l) (blocksFrom (next st l) ls), ended-bare st l, next-bare st l, blocks-bare (next st l) ls)
 
-  blocks-moved : (st : Collecting) (ls : List Part) → blocksFrom (movedState st) (map moved ls) ≡ map (map moved) (blocksFrom st ls)
-  unfolding blocksFrom
-  blocks-moved st [] = collected-moved st
-  blocks-moved st (l ∷ ls) =
-      rw (map-append (map moved) (ended st l) (blocksFrom (next st l) ls), ended-moved st l, next-moved st l, blocks-moved (next st l) ls)
+signature-bare : (ls : List Line) → behindSignature (unplaced ls) ≡ map unplaced (behindSignature ls)
+unfolding behindSignature bareState
+signature-bare [] = refl
+signature-bare (l ∷ ls) = blocks-bare header ls
 
-  pub signature-moved : (ls : List Part) → behindSignature (map moved ls) ≡ map (map moved) (behindSignature ls)
-  unfolding behindSignature movedState
-  signature-moved [] = refl
-  signature-moved (l ∷ ls) = blocks-moved header ls
-
-signature-bare : (ls : List Part) → behindSignature (unplaced ls) ≡ map unplaced (behindSignature ls)
-signature-bare ls = signature-moved (λ p. 0) ls
-
-unplaced-same : (ks ls : List Part) → bytesOf ks ≡ bytesOf ls → unplaced ks ≡ unplaced ls
+unplaced-same : (ks ls : List Line) → bytesOf ks ≡ bytesOf ls → unplaced ks ≡ unplaced ls
 unfolding bytesOf
 unplaced-same [] [] e = refl
 unplaced-same [] (l ∷ ls) e = cc
@@ -87,14 +78,14 @@ unplaced-same (k ∷ ks) (l ∷ ls) e =
     let more : bytesOf ks ≡ bytesOf ls = cc in
     rw (one, unplaced-same ks ls more)
 
--- lines with any places, in the place of a text's own
-module _ (s : List ℕ) (ls : List Part) (e : bytesOf ls ≡ split s) where
+-- lines with any numbers and places, in the place of a text's own
+module _ (s : List ℕ) (ls : List Line) (e : bytesOf ls ≡ split s) where
   blocks-placed : map unplaced (blocks s) ≡ map unplaced (behindSignature ls)
   unfolding blocks
   blocks-placed =
-      let own = linesAt 0 (split s) in
+      let own = linesAt 0 0 (split s) in
       sym (signature-bare own)
-      ∙ ap behindSignature (unplaced-same own ls (bytes-lines 0 (split s) ∙ sym e))
+      ∙ ap behindSignature (unplaced-same own ls (bytes-lines 0 0 (split s) ∙ sym e))
       ∙ signature-bare ls
 
   pub contents-placed : contents (lists s) ≡ contents (listed (itemsFrom false (behindSignature ls)))
@@ -110,8 +101,3 @@ module _ (s : List ℕ) (ls : List Part) (e : bytesOf ls ≡ split s) where
       sym (over-unplaced false (blocks s))
       ∙ ap (λ bs. anyOver (itemsFrom false bs)) blocks-placed
       ∙ over-unplaced false (behindSignature ls)
-
-pub bytes-numbered : (n : ℕ) (ls : List (List ℕ)) → bytesOf (numbered n ls) ≡ ls
-unfolding bytesOf numbered
-bytes-numbered n [] = refl
-bytes-numbered n (l ∷ ls) = ap (λ r. l ∷ r) (bytes-numbered (suc n) ls)

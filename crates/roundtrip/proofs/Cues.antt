@@ -17,7 +17,7 @@ use Rattle.format.specs.CueSettings.{positionSetting, setSize, sizeOf, setAlign
 use Rattle.format.specs.Written.{lastDigits, decimalIn, writtenTime, withoutZeros, fraction, writtenDecimal, writtenPercentage, setting}
 use Rattle.format.specs.Written.{writtenVertical, writtenLineAlign, writtenLineNumber, writtenLine, writtenPositionAlign, writtenPosition}
 use Rattle.format.specs.Written.{writtenSize, writtenAlign, writtenRegionName, writtenSettings, afterSpaces, writtenTiming, lineEnded}
-use Rattle.format.specs.Blocks.{linesAt, holdsArrow}
+use Rattle.format.specs.Blocks.{holdsArrow}
 use Rattle.format.specs.Rows.{cueEntry}
 use Rattle.format.specs.Writable.{unbroken, atMost100, lineFits, positionFits, isIndex, lastOfItsName, namesOf, cueTest1, cueTest2, cueTest3, cueTest4}
 use Rattle.format.specs.Writable.{cueTest5, cueTest6, cueTests, cueFails, regionTest1, regionTest2, regionTests, regionFails}
@@ -49,7 +49,7 @@ use Rattle.roundtrip.proofs.Numbers.{all-append, some-append, run-over,
 use Rattle.roundtrip.proofs.Numbers.{percentage-read, line-read, numeral, writtenTime-numeral, writtenDecimal-numeral}
 use Rattle.roundtrip.proofs.Numbers.{writtenPercentage-numeral, numeral-absent, numeral-unwhite, writtenTime-some, writtenDecimal-some}
 use Rattle.roundtrip.proofs.Numbers.{writtenPercentage-some, numeral-unskipped}
-use Rattle.roundtrip.proofs.Shape.{not-left, isToken, tokens-afterSpaces, behind-first, setting-name, setting-value, lines-append}
+use Rattle.roundtrip.proofs.Shape.{not-left, isToken, tokens-afterSpaces, behind-first, setting-name, setting-value, partsAt, parts-append}
 use Rattle.roundtrip.proofs.Shape.{black-line, absent-has, none-fails}
 
 -- a text without a byte
@@ -346,7 +346,7 @@ line-token snap negative m a =
 -- texts that are tokens, and that turn settings into others wherever they stand
 record Sets (ts : List (List ℕ)) (c d : CueSettings) : Type 0 where
   token : All (λ t. isToken t ≡ true) ts
-  read : (p : ℕ) → settingsFrom (taken c) (linesAt p ts) ≡ taken d
+  read : (p : ℕ) → settingsFrom (taken c) (partsAt p ts) ≡ taken d
 
 settings-append : (s : Taken) (a b : List Part) → settingsFrom s (a ++ b) ≡ settingsFrom (settingsFrom s a) b
 unfolding settingsFrom
@@ -356,9 +356,9 @@ settings-append s (t ∷ a) b = settings-append _ a b
 settings-lines :
     (c d : CueSettings) (p : ℕ) (xs ys : List (List ℕ))
     → Sets xs c d
-    → settingsFrom (taken c) (linesAt p (xs ++ ys)) ≡ settingsFrom (taken d) (linesAt (p + length (lineEnded xs)) ys)
+    → settingsFrom (taken c) (partsAt p (xs ++ ys)) ≡ settingsFrom (taken d) (partsAt (p + length (lineEnded xs)) ys)
 settings-lines c d p xs ys f =
-    rw (lines-append p xs ys, settings-append (taken c) (linesAt p xs) (linesAt (p + length (lineEnded xs)) ys), f .read p)
+    rw (parts-append p xs ys, settings-append (taken c) (partsAt p xs) (partsAt (p + length (lineEnded xs)) ys), f .read p)
 
 sets-both : {c d e : CueSettings} {xs ys : List (List ℕ)} → Sets xs c d → Sets ys d e → Sets (xs ++ ys) c e
 sets-both {c} {d} {e} {xs} {ys} f g =
@@ -368,7 +368,7 @@ sets-both {c} {d} {e} {xs} {ys} f g =
     }
 
 sets-none : (c : CueSettings) → Sets [] c c
-unfolding settingsFrom linesAt
+unfolding settingsFrom partsAt
 sets-none c = record { token = tt; read = λ p. refl }
 
 sets-one :
@@ -376,7 +376,7 @@ sets-one :
     → isToken t ≡ true
     → ((p : ℕ) → cueSetting (record { place = p; bytes = t }) c ≡ taken d)
     → Sets (t ∷ []) c d
-unfolding settingsFrom linesAt
+unfolding settingsFrom partsAt
 sets-one h f = record { token = (h, tt); read = λ p. rw (f p) }
 
 -- what can be set: a line and a position that are auto with the opening alignment, or a number; a region with a token for a name
@@ -481,9 +481,9 @@ regionPlace (some i) p = p + 7
 sets-region :
     (v : Direction) (l : LinePlace) (q : PositionPlace) (n : ℕ) (a : Align) (rs : List RegionContents) (o : Option ℕ) (p : ℕ)
     → RegionSettable rs o
-    → settingsFrom (taken (soFar v l q n a)) (linesAt p (writtenRegionName rs o))
+    → settingsFrom (taken (soFar v l q n a)) (partsAt p (writtenRegionName rs o))
     ≡ taken (setRegion (record { place = regionPlace o p; bytes = regionName rs o }) (soFar v l q n a))
-unfolding writtenRegionName regionPlace setting settingsFrom linesAt setRegion isToken
+unfolding writtenRegionName regionPlace setting settingsFrom partsAt setRegion isToken
 sets-region v l q n a rs none p noRegion = refl
 sets-region v l q n a rs (some i) p (regionAt t) =
     let name = regionName rs (some i) in

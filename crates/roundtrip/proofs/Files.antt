@@ -32,7 +32,7 @@ use Rattle.roundtrip.proofs.Plain.{all-map, plain-written, rows-plain}
 
 -- what these blocks give, wherever they stand
 abbrev given : Bool → List (List (List ℕ)) → List Item
-given seen bs = itemsFrom seen (map (linesAt 0) bs)
+given seen bs = itemsFrom seen (map (linesAt 0 0) bs)
 
 -- the first items add these styles and regions to what the others give
 record Adds (is rest : List Item) (ss : List (List ℕ)) (rs : List RegionContents) : Type 0 where
@@ -49,7 +49,7 @@ unfolding itemsFrom isCue listed into anyOver itemOver
 styles-add [] rest h = record { styles = refl; regions = refl; cues = refl; over = refl }
 styles-add (t ∷ ts) rest h =
     let more = styles-add ts rest (h .1) in
-    rw (style-means 0 t (h .0))
+    rw (style-means 0 0 t (h .0))
     (record { styles = ap (λ r. t ∷ r) (more .styles); regions = more .regions; cues = more .cues; over = more .over })
 
 regions-add :
@@ -60,7 +60,7 @@ unfolding itemsFrom isCue listed into anyOver itemOver
 regions-add [] rest h = record { styles = refl; regions = refl; cues = refl; over = refl }
 regions-add (r ∷ rs) rest h =
     let more = regions-add rs rest (h .1) in
-    let first = regionLines-mean 0 r (h .0) in
+    let first = regionLines-mean 0 0 r (h .0) in
     rw (first .is)
     (record {
       styles = more .styles;
@@ -106,10 +106,10 @@ pub cue-read :
     (rs : List RegionContents) (read : List RegionValues) (seen : Bool) (c : CueContents)
     → ids read ≡ map (λ r. r .id) rs
     → CueWritable rs c
-    → CueRead read c (meaning seen (linesAt 0 (cueLines rs c)))
+    → CueRead read c (meaning seen (linesAt 0 0 (cueLines rs c)))
 unfolding cueLines cueOf cueContents
 cue-read rs read seen c e f =
-    let m = cue-means seen 0 (c .id) (writtenTiming rs c) (c .text) (f .line) (f .plain) (timing-arrow rs c) in
+    let m = cue-means seen 0 0 (c .id) (writtenTiming rs c) (c .text) (f .line) (f .plain) (timing-arrow rs c) in
     let l = m .line in
     let t : TimingRead rs c (timingLine l) =
     subst (λ b. TimingRead rs c (timingLine (record { place = l .place; bytes = b }))) (sym (m .timed))
@@ -155,9 +155,9 @@ unfolding ids valued
 ids-valued [] = refl
 ids-valued (r ∷ rs) = ap (λ x. r .id ∷ x) (ids-valued rs)
 
-placed-bytes : (bs : List (List (List ℕ))) → map bytesOf (map (linesAt 0) bs) ≡ bs
+placed-bytes : (bs : List (List (List ℕ))) → map bytesOf (map (linesAt 0 0) bs) ≡ bs
 placed-bytes [] = refl
-placed-bytes (b ∷ bs) = let e = bytes-lines 0 b in let f = placed-bytes bs in rw (e, f)
+placed-bytes (b ∷ bs) = let e = bytes-lines 0 0 b in let f = placed-bytes bs in rw (e, f)
 
 pub cue-blocks : (rs : List RegionContents) (c : CueContents) → CueWritable rs c → Block (cueLines rs c)
 unfolding cueLines
@@ -189,7 +189,7 @@ module _ (c : Contents) (styles : All (λ t. unbroken t ≡ true) (c .styles)) (
       (all-map Regional Block regionLines regionLines-block (c .regions) regions))
       (all-map (CueWritable (c .regions)) Block (cueLines (c .regions)) (cue-blocks (c .regions)) (c .cues) cues)
 
-  found : map bytesOf (blocks (fileOf (one ++ two ++ three))) ≡ map bytesOf (map (linesAt 0) (one ++ two ++ three))
+  found : map bytesOf (blocks (fileOf (one ++ two ++ three))) ≡ map bytesOf (map (linesAt 0 0) (one ++ two ++ three))
   found = blocks-file (one ++ two ++ three) all-blocks ∙ sym (placed-bytes (one ++ two ++ three))
 
   abbrev all : List Item
@@ -236,11 +236,11 @@ module _ (c : Contents) (styles : All (λ t. unbroken t ≡ true) (c .styles)) (
         plain = plain;
         signature = signature-file (one ++ two ++ three);
         within =
-            over-same false (blocks (fileOf (one ++ two ++ three))) (map (linesAt 0) (one ++ two ++ three)) found
+            over-same false (blocks (fileOf (one ++ two ++ three))) (map (linesAt 0 0) (one ++ two ++ three)) found
             ∙ first .over
             ∙ second .over
             ∙ third .over;
-        same = contents-same false (blocks (fileOf (one ++ two ++ three))) (map (linesAt 0) (one ++ two ++ three)) found ∙ contents-back;
+        same = contents-same false (blocks (fileOf (one ++ two ++ three))) (map (linesAt 0 0) (one ++ two ++ three)) found ∙ contents-back;
       }
 
 unfailing : (list i : ℕ) (o : Option ℕ) (later : Option (List ℕ)) → orElse o list i later ≡ none → (o ≡ none) × (later ≡ none)

@@ -28,7 +28,7 @@ use Rattle.laws.proofs.Tokens.{inside as black, first-at}
 use Rattle.laws.proofs.Standing.{All}
 use Rattle.roundtrip.proofs.Numbers.{all-append, some-append, decimal-some, percentage-read, count-read, numeral, decimalIn-numeral}
 use Rattle.roundtrip.proofs.Numbers.{writtenPercentage-numeral, writtenPercentage-some, numeral-absent, numeral-unwhite}
-use Rattle.roundtrip.proofs.Shape.{isToken, not-left, empty-is, before-first, behind-first, setting-name, setting-value, tokens-join}
+use Rattle.roundtrip.proofs.Shape.{isToken, not-left, empty-is, before-first, behind-first, setting-name, setting-value, partsAt, tokens-join}
 use Rattle.roundtrip.proofs.Shape.{noArrow, quiet-tokens, Block, region-block, region-means, none-fails}
 
 -- the name of a setting: some bytes, no whitespace, no colon and no hyphen
@@ -286,9 +286,9 @@ regionLines-block c h =
 line-taken :
     (p : ℕ) (l : List ℕ) (ls : List (List ℕ)) (r after : RegionValues)
     → regionSetting (record { place = p; bytes = l }) r ≡ takenRegion after
-    → regionFrom (takenRegion r) (linesAt p (l ∷ ls)) ≡ regionFrom (takenRegion after) (linesAt (p + suc (length l)) ls)
-unfolding linesAt regionFrom
-line-taken p l ls r after e = ap (λ t. regionFrom t (linesAt (p + suc (length l)) ls)) e
+    → regionFrom (takenRegion r) (partsAt p (l ∷ ls)) ≡ regionFrom (takenRegion after) (partsAt (p + suc (length l)) ls)
+unfolding partsAt regionFrom
+line-taken p l ls r after e = ap (λ t. regionFrom t (partsAt (p + suc (length l)) ls)) e
 
 -- the values of a region's contents, with the part that is its identifier
 abbrev valuesOf : RegionContents → Part → RegionValues
@@ -298,16 +298,16 @@ valuesOf c id =
 scroll-last :
     (p : ℕ) (s : Scroll) (r : RegionValues)
     → r .scroll ≡ Scroll.None
-    → regionFrom (takenRegion r) (linesAt p (writtenScroll s))
+    → regionFrom (takenRegion r) (partsAt p (writtenScroll s))
     ≡ takenRegion (record { id = r .id; width = r .width; lines = r .lines; anchor = r .anchor; viewport = r .viewport; scroll = s })
-unfolding writtenScroll setting linesAt regionFrom setScroll
+unfolding writtenScroll setting partsAt regionFrom setScroll
 scroll-last p Scroll.None r e = rw (sym e)
 scroll-last p Scroll.Up r e = line-taken p (ascii "scroll" ++ colon ∷ ascii "up") [] r (setScroll r) (scroll-read p r)
 
 later-read :
     (p : ℕ) (id : Part) (c : RegionContents)
     → Regional c
-    → regionFrom (takenRegion (setId id openingRegion)) (linesAt p (laterLines c)) ≡ takenRegion (valuesOf c id)
+    → regionFrom (takenRegion (setId id openingRegion)) (partsAt p (laterLines c)) ≡ takenRegion (valuesOf c id)
 unfolding laterLines setId setWidth setAnchor setViewport
 later-read p id c h =
     line-taken _ _ _ _ _ (width-read p _ (c .width) (h .width))
@@ -325,7 +325,7 @@ region-is : (c : RegionContents) (id : Part) → id .bytes ≡ c .id → RegionR
 unfolding regionContents
 region-is c id e = record { over = refl; values = rw e }
 
-from-opening : (p : ℕ) (c : RegionContents) → Regional c → RegionRead c (regionFrom (takenRegion openingRegion) (linesAt p (settingLines c)))
+from-opening : (p : ℕ) (c : RegionContents) → Regional c → RegionRead c (regionFrom (takenRegion openingRegion) (partsAt p (settingLines c)))
 unfolding setId
 from-opening p c h =
     by-test (isEmpty (c .id))
@@ -347,21 +347,21 @@ pub record RegionItem (c : RegionContents) (i : Item) : Type 0 where
   pub same : regionContents values ≡ c
 
 means-region :
-    (p : ℕ) (x : List (List ℕ)) (l : List ℕ) (ls : List (List ℕ))
+    (k p : ℕ) (x : List (List ℕ)) (l : List ℕ) (ls : List (List ℕ))
     → noArrow (x ++ l ∷ ls) ≡ true
-    → meaning false (linesAt p (ascii "REGION" ∷ (x ++ l ∷ ls)))
+    → meaning false (linesAt k p (ascii "REGION" ∷ (x ++ l ∷ ls)))
     ≡ regionOf (regionSettings (record { place = p + 7; bytes = join (x ++ l ∷ ls) }))
-means-region p [] l ls n = region-means p l ls n
-means-region p (m ∷ x) l ls n = region-means p m (x ++ l ∷ ls) n
+means-region k p [] l ls n = region-means k p l ls n
+means-region k p (m ∷ x) l ls n = region-means k p m (x ++ l ∷ ls) n
 
-pub regionLines-mean : (p : ℕ) (c : RegionContents) → Regional c → RegionItem c (meaning false (linesAt p (regionLines c)))
+pub regionLines-mean : (k p : ℕ) (c : RegionContents) → Regional c → RegionItem c (meaning false (linesAt k p (regionLines c)))
 unfolding laterLines regionOf
-regionLines-mean p c h =
+regionLines-mean k p c h =
     let r = settings-read (p + 7) c h in
     let t = regionSettings (record { place = p + 7; bytes = join (settingLines c) }) in
     record {
       values = t .region;
-      is = rw (region-lines c) (means-region p (writtenId (c .id)) _ _ (words-quiet (settingLines c) (words-region c h)))
+      is = rw (region-lines c) (means-region k p (writtenId (c .id)) _ _ (words-quiet (settingLines c) (words-region c h)))
           ∙ ap (region (t .region)) (r .over);
       same = r .values;
     }

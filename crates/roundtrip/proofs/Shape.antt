@@ -13,8 +13,8 @@ use Rattle.format.specs.Bytes.{ascii, white, lf, space, colon}
 use Rattle.format.specs.Texts.{Part, nowhere, startsWith, isEmpty, all, run, has, beforeFirst, behindFirst}
 use Rattle.format.specs.Lines.{split, endedLines, join}
 use Rattle.format.specs.Tokens.{inToken, onToken, beforeTokens, tokens, nameOf, valueOf}
-use Rattle.format.specs.Blocks.{hasSignature, seventh, linesAt, holdsArrow, Collecting, between, header, inside, canTime, stops, begin, goOn}
-use Rattle.format.specs.Blocks.{collected, ended, next, blocksFrom, behind, behindSignature, blocks, bytesOf, joined}
+use Rattle.format.specs.Blocks.{Line, hasSignature, seventh, linesAt, linePart, holdsArrow, Collecting, between, header, inside, canTime, stops, begin, goOn}
+use Rattle.format.specs.Blocks.{collected, ended, next, blocksFrom, behindSignature, blocks, bytesOf, joined}
 use Rattle.format.specs.TimingLines.{timingLine}
 use Rattle.format.specs.RegionSettings.{regionSettings}
 use Rattle.format.specs.Lists.{Item, style, cueOf, regionOf, isWord, definition, meaning}
@@ -23,7 +23,7 @@ use Rattle.format.specs.Writable.{unbroken as unbrokenText, noneEmpty, firstFai
 use Rattle.laws.proofs.Tests.{and-left, and-right, and-both, and-false, or-first, or-second, by-test, absent}
 use Rattle.laws.proofs.Tokens.{inside as black}
 use Rattle.laws.proofs.Lines.{unbroken, split-line, split-last, splits}
-use Rattle.laws.proofs.Blocks.{blocks-stop, cut}
+use Rattle.laws.proofs.Blocks.{behind, blocks-stop, cut}
 use Rattle.laws.proofs.Standing.{All, bytes-lines}
 
 -- the first of two tests, where it is a refusal
@@ -82,6 +82,20 @@ unfoldable after : ℕ → List (List ℕ) → List ℕ
 after c [] = []
 after c (t ∷ ts) = c ∷ (t ++ after c ts)
 
+-- texts with their places, the first at p: each ends one byte before the next one begins
+unfoldable pub partsAt : ℕ → List (List ℕ) → List Part
+partsAt p [] = []
+partsAt p (t ∷ ts) = record { place = p; bytes = t } ∷ partsAt (p + suc (length t)) ts
+
+-- the texts of two lists, one after the other
+pub parts-append : (p : ℕ) (a b : List (List ℕ)) → partsAt p (a ++ b) ≡ partsAt p a ++ partsAt (p + length (lineEnded a)) b
+unfolding partsAt lineEnded
+parts-append p [] b = let e : p + 0 ≡ p = omega arith in rw e
+parts-append p (t ∷ a) b =
+    let n = length-append t (lf ∷ lineEnded a) in
+    let e : p + length (t ++ lf ∷ lineEnded a) ≡ p + suc (length t) + length (lineEnded a) = omega arith in
+    rw e (ap (λ r. record { place = p; bytes = t } ∷ r) (parts-append (p + suc (length t)) a b))
+
 module _ (c : ℕ) (w : white c ≡ true) where
   after-ends : (ts : List (List ℕ)) → inToken (after c ts) ≡ false
   unfolding after inToken
@@ -93,16 +107,16 @@ module _ (c : ℕ) (w : white c ≡ true) where
   tokens-past p s = rw w
 
   tokens-row :
-      (p : ℕ) (t : List ℕ) (ts : List (List ℕ)) → All (λ t. isToken t ≡ true) (t ∷ ts) → tokens p (t ++ after c ts) ≡ linesAt p (t ∷ ts)
-  unfolding after linesAt tokens
+      (p : ℕ) (t : List ℕ) (ts : List (List ℕ)) → All (λ t. isToken t ≡ true) (t ∷ ts) → tokens p (t ++ after c ts) ≡ partsAt p (t ∷ ts)
+  unfolding after partsAt tokens
   tokens-row p t [] h = tokens-first [] (after-ends []) p t (h .0)
   tokens-row p t (u ∷ us) h =
       let e : p + suc (length t) ≡ suc (p + length t) = omega arith in
       let rest = tokens-past (p + length t) (u ++ after c us) ∙ tokens-row (suc (p + length t)) u us (h .1) in
       tokens-first (after c (u ∷ us)) (after-ends (u ∷ us)) p t (h .0) ∙ rw e (ap (λ r. record { place = p; bytes = t } ∷ r) rest)
 
-  tokens-after : (p : ℕ) (ts : List (List ℕ)) → All (λ t. isToken t ≡ true) ts → tokens p (after c ts) ≡ linesAt (suc p) ts
-  unfolding after linesAt tokens
+  tokens-after : (p : ℕ) (ts : List (List ℕ)) → All (λ t. isToken t ≡ true) ts → tokens p (after c ts) ≡ partsAt (suc p) ts
+  unfolding after partsAt tokens
   tokens-after p [] h = refl
   tokens-after p (t ∷ ts) h = tokens-past p (t ++ after c ts) ∙ tokens-row (suc p) t ts h
 
@@ -125,19 +139,13 @@ unfolding white
 white-lf = refl
 
 -- the tokens of a timing line's settings, and of a region's lines
-pub tokens-afterSpaces : (p : ℕ) (ts : List (List ℕ)) → All (λ t. isToken t ≡ true) ts → tokens p (afterSpaces ts) ≡ linesAt (suc p) ts
+pub tokens-afterSpaces : (p : ℕ) (ts : List (List ℕ)) → All (λ t. isToken t ≡ true) ts → tokens p (afterSpaces ts) ≡ partsAt (suc p) ts
 tokens-afterSpaces p ts h = rw (after-spaces ts) (tokens-after space white-space p ts h)
 
-pub tokens-join : (p : ℕ) (ls : List (List ℕ)) → All (λ t. isToken t ≡ true) ls → tokens p (join ls) ≡ linesAt p ls
-unfolding join tokens linesAt
+pub tokens-join : (p : ℕ) (ls : List (List ℕ)) → All (λ t. isToken t ≡ true) ls → tokens p (join ls) ≡ partsAt p ls
+unfolding join tokens partsAt
 tokens-join p [] h = refl
 tokens-join p (l ∷ ls) h = rw (after-lines ls) (tokens-row lf white-lf p l ls h)
-
-pub bytes-afterSpaces : (p : ℕ) (ts : List (List ℕ)) → All (λ t. isToken t ≡ true) ts → bytesOf (tokens p (afterSpaces ts)) ≡ ts
-bytes-afterSpaces p ts h = ap bytesOf (tokens-afterSpaces p ts h) ∙ bytes-lines (suc p) ts
-
-pub bytes-join : (p : ℕ) (ls : List (List ℕ)) → All (λ t. isToken t ≡ true) ls → bytesOf (tokens p (join ls)) ≡ ls
-bytes-join p ls h = ap bytesOf (tokens-join p ls h) ∙ bytes-lines p ls
 
 -- a name, a byte that is not in it, and a value
 module _ (c : ℕ) (value : List ℕ) where
@@ -184,126 +192,134 @@ pub record Closed (b : List (List ℕ)) : Type 0 where
 
 -- a line before which collecting does not stop
 goes-on :
-    (b : List Part) (l : Part) (ls : List Part)
+    (b : List Line) (l : Line) (ls : List Line)
     → stops (inside b) l ≡ false
     → blocksFrom (inside b) (l ∷ ls) ≡ blocksFrom (inside (b ++ l ∷ [])) ls
 unfolding blocksFrom ended next goOn
 goes-on b l ls e = rw e
 
-quiet-line : (b : List Part) (l : Part) → isEmpty (l .bytes) ≡ false → holdsArrow (l .bytes) ≡ false → stops (inside b) l ≡ false
+quiet-line : (b : List Line) (l : Line) → isEmpty (l .bytes) ≡ false → holdsArrow (l .bytes) ≡ false → stops (inside b) l ≡ false
 unfolding stops
 quiet-line b l e a = rw (e, a)
 
-second-line : (first l : Part) → isEmpty (l .bytes) ≡ false → holdsArrow (first .bytes) ≡ false → stops (inside (first ∷ [])) l ≡ false
+second-line : (first l : Line) → isEmpty (l .bytes) ≡ false → holdsArrow (first .bytes) ≡ false → stops (inside (first ∷ [])) l ≡ false
 unfolding stops canTime
 second-line first l e a = rw (e, a) (and-false (holdsArrow (l .bytes)) false refl)
 
 -- lines behind a block's begin that hold no `-->`
 quiet-lines :
-    (b : List Part) (p : ℕ) (ls : List (List ℕ))
+    (b : List Line) (k p : ℕ) (ls : List (List ℕ))
     → noneEmpty ls ≡ true
     → noArrow ls ≡ true
-    → blocksFrom (inside b) (linesAt p ls) ≡ (b ++ linesAt p ls) ∷ []
+    → blocksFrom (inside b) (linesAt k p ls) ≡ (b ++ linesAt k p ls) ∷ []
 unfolding linesAt noneEmpty noArrow blocksFrom collected
-quiet-lines b p [] f n = rw (append-nil b)
-quiet-lines b p (l ∷ ls) f n =
-    let at : Part = record { place = p; bytes = l } in
-    let rest = linesAt (p + suc (length l)) ls in
+quiet-lines b k p [] f n = rw (append-nil b)
+quiet-lines b k p (l ∷ ls) f n =
+    let at : Line = record { number = k; place = p; bytes = l } in
+    let rest = linesAt (suc k) (p + suc (length l)) ls in
     let e = not-left (isEmpty l) (noneEmpty ls) f in
     let a = not-left (holdsArrow l) (noArrow ls) n in
     goes-on b at rest (quiet-line b at e a)
-    ∙ quiet-lines (b ++ at ∷ []) (p + suc (length l)) ls (and-right (not (isEmpty l)) (noneEmpty ls) f)
+    ∙ quiet-lines (b ++ at ∷ []) (suc k) (p + suc (length l)) ls (and-right (not (isEmpty l)) (noneEmpty ls) f)
     (and-right (not (holdsArrow l)) (noArrow ls) n)
     ∙ ap (λ r. r ∷ []) (append-assoc b (at ∷ []) rest)
 
-begins : (l : Part) (ls : List Part) → isEmpty (l .bytes) ≡ false → blocksFrom between (l ∷ ls) ≡ blocksFrom (inside (l ∷ [])) ls
+begins : (l : Line) (ls : List Line) → isEmpty (l .bytes) ≡ false → blocksFrom between (l ∷ ls) ≡ blocksFrom (inside (l ∷ [])) ls
 unfolding blocksFrom ended next stops collected begin
 begins l ls e = rw e
 
 -- a closed block alone
 closed-rest :
-    (first : Part) (p : ℕ) (ls : List (List ℕ))
+    (first : Line) (k p : ℕ) (ls : List (List ℕ))
     → noneEmpty ls ≡ true
     → cond (holdsArrow (first .bytes)) (noArrow ls) (fromSecond ls) ≡ true
-    → blocksFrom (inside (first ∷ [])) (linesAt p ls) ≡ (first ∷ linesAt p ls) ∷ []
+    → blocksFrom (inside (first ∷ [])) (linesAt k p ls) ≡ (first ∷ linesAt k p ls) ∷ []
 unfolding linesAt noneEmpty noArrow fromSecond blocksFrom collected
-closed-rest first p [] f t = refl
-closed-rest first p (l ∷ ls) f t =
+closed-rest first k p [] f t = refl
+closed-rest first k p (l ∷ ls) f t =
     by-test (holdsArrow (first .bytes))
-    (λ y. quiet-lines (first ∷ []) p (l ∷ ls) f (rw y at t))
-    (λ n. let at : Part = record { place = p; bytes = l } in
-    let rest = linesAt (p + suc (length l)) ls in
+    (λ y. quiet-lines (first ∷ []) k p (l ∷ ls) f (rw y at t))
+    (λ n. let at : Line = record { number = k; place = p; bytes = l } in
+    let rest = linesAt (suc k) (p + suc (length l)) ls in
     let e = not-left (isEmpty l) (noneEmpty ls) f in
     goes-on (first ∷ []) at rest (second-line first at e n)
-    ∙ quiet-lines (first ∷ at ∷ []) (p + suc (length l)) ls (and-right (not (isEmpty l)) (noneEmpty ls) f) (rw n at t))
+    ∙ quiet-lines (first ∷ at ∷ []) (suc k) (p + suc (length l)) ls (and-right (not (isEmpty l)) (noneEmpty ls) f) (rw n at t))
 
-pub closed-block : (p : ℕ) (b : List (List ℕ)) → Closed b → blocksFrom between (linesAt p b) ≡ linesAt p b ∷ []
+pub closed-block : (k p : ℕ) (b : List (List ℕ)) → Closed b → blocksFrom between (linesAt k p b) ≡ linesAt k p b ∷ []
 unfolding linesAt noneEmpty timed
-closed-block p [] c = absurd (false≢true (c .once))
-closed-block p (l ∷ ls) c =
-    let at : Part = record { place = p; bytes = l } in
+closed-block k p [] c = absurd (false≢true (c .once))
+closed-block k p (l ∷ ls) c =
+    let at : Line = record { number = k; place = p; bytes = l } in
     let e = not-left (isEmpty l) (noneEmpty ls) (c .full) in
-    begins at (linesAt (p + suc (length l)) ls) e
-    ∙ closed-rest at (p + suc (length l)) ls (and-right (not (isEmpty l)) (noneEmpty ls) (c .full)) (c .once)
+    begins at (linesAt (suc k) (p + suc (length l)) ls) e
+    ∙ closed-rest at (suc k) (p + suc (length l)) ls (and-right (not (isEmpty l)) (noneEmpty ls) (c .full)) (c .once)
 
 -- an empty line ends what is being collected
-stops-empty : (st : Collecting) (l : Part) → isEmpty (l .bytes) ≡ true → stops st l ≡ true
+stops-empty : (st : Collecting) (l : Line) → isEmpty (l .bytes) ≡ true → stops st l ≡ true
 unfolding stops
 stops-empty between l e = refl
 stops-empty header l e = rw e
 stops-empty (inside ls) l e = rw e
 
-gap : (l : Part) (ls : List Part) → isEmpty (l .bytes) ≡ true → blocksFrom between (l ∷ ls) ≡ blocksFrom between ls
+gap : (l : Line) (ls : List Line) → isEmpty (l .bytes) ≡ true → blocksFrom between (l ∷ ls) ≡ blocksFrom between ls
 unfolding blocksFrom ended next stops collected begin
 gap l ls e = rw e
 
-pub lines-append : (p : ℕ) (a b : List (List ℕ)) → linesAt p (a ++ b) ≡ linesAt p a ++ linesAt (p + length (lineEnded a)) b
+-- the same for lines
+lines-append :
+    (k p : ℕ) (a b : List (List ℕ))
+    → linesAt k p (a ++ b) ≡ linesAt k p a ++ linesAt (k + length a) (p + length (lineEnded a)) b
 unfolding linesAt lineEnded
-lines-append p [] b = let e : p + 0 ≡ p = omega arith in rw e
-lines-append p (l ∷ a) b =
+lines-append k p [] b =
+    let e : p + 0 ≡ p = omega arith in
+    let m : k + 0 ≡ k = omega arith in
+    rw (e, m)
+lines-append k p (l ∷ a) b =
     let n = length-append l (lf ∷ lineEnded a) in
     let e : p + length (l ++ lf ∷ lineEnded a) ≡ p + suc (length l) + length (lineEnded a) = omega arith in
-    rw e (ap (λ r. record { place = p; bytes = l } ∷ r) (lines-append (p + suc (length l)) a b))
+    let m : k + suc (length a) ≡ suc k + length a = omega arith in
+    rw (e, m) (ap (λ r. record { number = k; place = p; bytes = l } ∷ r) (lines-append (suc k) (p + suc (length l)) a b))
 
 -- lines behind a block that begin with an empty one
-module _ (b : List (List ℕ)) (c : Closed b) (p : ℕ) where
+module _ (b : List (List ℕ)) (c : Closed b) (k p : ℕ) where
   closed-before :
-      (l : Part) (ls : List Part)
+      (l : Line) (ls : List Line)
       → isEmpty (l .bytes) ≡ true
-      → blocksFrom between (linesAt p b ++ l ∷ ls) ≡ linesAt p b ∷ blocksFrom between (l ∷ ls)
+      → blocksFrom between (linesAt k p b ++ l ∷ ls) ≡ linesAt k p b ∷ blocksFrom between (l ∷ ls)
   closed-before l ls e =
-      cut between (linesAt p b) l ls (stops-empty (behind between (linesAt p b)) l e)
-      ∙ ap (λ r. r ++ blocksFrom between (l ∷ ls)) (closed-block p b c)
+      cut between (linesAt k p b) l ls (stops-empty (behind between (linesAt k p b)) l e)
+      ∙ ap (λ r. r ++ blocksFrom between (l ∷ ls)) (closed-block k p b c)
 
   closed-apart :
       (bs : List (List (List ℕ)))
-      → blocksFrom between (linesAt p (b ++ (apart bs ++ [] ∷ [])))
-      ≡ linesAt p b ∷ blocksFrom between (linesAt (p + length (lineEnded b)) (apart bs ++ [] ∷ []))
+      → blocksFrom between (linesAt k p (b ++ (apart bs ++ [] ∷ [])))
+      ≡ linesAt k p b ∷ blocksFrom between (linesAt (k + length b) (p + length (lineEnded b)) (apart bs ++ [] ∷ []))
   unfolding apart linesAt isEmpty
-  closed-apart [] = ap (blocksFrom between) (lines-append p b ([] ∷ [])) ∙ closed-before _ _ refl
-  closed-apart (d ∷ bs) = ap (blocksFrom between) (lines-append p b (apart (d ∷ bs) ++ [] ∷ [])) ∙ closed-before _ _ refl
+  closed-apart [] = ap (blocksFrom between) (lines-append k p b ([] ∷ [])) ∙ closed-before _ _ refl
+  closed-apart (d ∷ bs) = ap (blocksFrom between) (lines-append k p b (apart (d ∷ bs) ++ [] ∷ [])) ∙ closed-before _ _ refl
 
 blocks-apart :
-    (p : ℕ) (bs : List (List (List ℕ))) → All Closed bs → map bytesOf (blocksFrom between (linesAt p (apart bs ++ [] ∷ []))) ≡ bs
+    (k p : ℕ) (bs : List (List (List ℕ))) → All Closed bs → map bytesOf (blocksFrom between (linesAt k p (apart bs ++ [] ∷ []))) ≡ bs
 unfolding apart linesAt isEmpty blocksFrom collected
-blocks-apart p [] cs = ap (map bytesOf) (gap (record { place = p; bytes = [] }) [] refl)
-blocks-apart p (b ∷ bs) cs =
-    let past = gap (record { place = p; bytes = [] }) (linesAt (p + 1) (b ++ (apart bs ++ [] ∷ []))) refl in
-    let rest = blocks-apart (p + 1 + length (lineEnded b)) bs (cs .1) in
+blocks-apart k p [] cs = ap (map bytesOf) (gap (record { number = k; place = p; bytes = [] }) [] refl)
+blocks-apart k p (b ∷ bs) cs =
+    let empty : Line = record { number = k; place = p; bytes = [] } in
+    let past = gap empty (linesAt (suc k) (p + 1) (b ++ (apart bs ++ [] ∷ []))) refl in
+    let rest = blocks-apart (suc k + length b) (p + 1 + length (lineEnded b)) bs (cs .1) in
     rw (append-assoc b (apart bs) ([] ∷ []))
-    (ap (map bytesOf) (past ∙ closed-apart b (cs .0) (p + 1) bs) ∙ rw (bytes-lines (p + 1) b, rest))
+    (ap (map bytesOf) (past ∙ closed-apart b (cs .0) (suc k) (p + 1) bs) ∙ rw (bytes-lines (suc k) (p + 1) b, rest))
 
 -- the first empty line ends the header block, which yields nothing
 header-ends :
-    (p : ℕ) (bs : List (List (List ℕ)))
-    → blocksFrom header (linesAt p (apart bs ++ [] ∷ [])) ≡ blocksFrom between (linesAt p (apart bs ++ [] ∷ []))
+    (k p : ℕ) (bs : List (List (List ℕ)))
+    → blocksFrom header (linesAt k p (apart bs ++ [] ∷ [])) ≡ blocksFrom between (linesAt k p (apart bs ++ [] ∷ []))
 unfolding apart linesAt isEmpty collected
-header-ends p [] = blocks-stop header _ _ (stops-empty header _ refl)
-header-ends p (b ∷ bs) = blocks-stop header _ _ (stops-empty header _ refl)
+header-ends k p [] = blocks-stop header _ _ (stops-empty header _ refl)
+header-ends k p (b ∷ bs) = blocks-stop header _ _ (stops-empty header _ refl)
 
 pub blocks-header :
-    (p : ℕ) (bs : List (List (List ℕ))) → All Closed bs → map bytesOf (blocksFrom header (linesAt p (apart bs ++ [] ∷ []))) ≡ bs
-blocks-header p bs cs = ap (map bytesOf) (header-ends p bs) ∙ blocks-apart p bs cs
+    (k p : ℕ) (bs : List (List (List ℕ))) → All Closed bs → map bytesOf (blocksFrom header (linesAt k p (apart bs ++ [] ∷ []))) ≡ bs
+blocks-header k p bs cs = ap (map bytesOf) (header-ends k p bs) ∙ blocks-apart k p bs cs
 
 -- a closed block of lines without LF
 pub record Block (b : List (List ℕ)) : Type 0 where
@@ -338,8 +354,8 @@ pub blocks-file : (bs : List (List (List ℕ))) → All Block bs → map bytesOf
 unfolding blocks behindSignature linesAt
 blocks-file bs h =
     let lines = split-lineEnded (ascii "WEBVTT" ∷ apart bs) (signature-unbroken (apart bs) (unbroken-apart bs h)) in
-    ap (λ ls. map bytesOf (behindSignature (linesAt 0 ls))) lines
-    ∙ blocks-header 7 bs (all-closed bs h)
+    ap (λ ls. map bytesOf (behindSignature (linesAt 0 0 ls))) lines
+    ∙ blocks-header 1 7 bs (all-closed bs h)
 
 pub signature-file : (bs : List (List (List ℕ))) → hasSignature (fileOf bs) ≡ true
 unfolding hasSignature startsWith seventh lineEnded
@@ -492,36 +508,38 @@ unfolding absent isEmpty holdsArrow startsWith
 region-block ls q = word-block (ascii "REGION") refl refl refl ls q
 
 -- lines that follow each other are one part, and those of a text are the text
-joined-lines : (p : ℕ) (l : List ℕ) (ls : List (List ℕ)) → joined (linesAt p (l ∷ ls)) ≡ record { place = p; bytes = join (l ∷ ls) }
+joined-lines : (k p : ℕ) (l : List ℕ) (ls : List (List ℕ)) → joined (linesAt k p (l ∷ ls)) ≡ record { place = p; bytes = join (l ∷ ls) }
 unfolding joined linesAt bytesOf
-joined-lines p l ls = rw (bytes-lines (p + suc (length l)) ls)
+joined-lines k p l ls = rw (bytes-lines (suc k) (p + suc (length l)) ls)
 
-joined-split : (p : ℕ) (text : List ℕ) → joined (linesAt p (split text)) ≡ record { place = p; bytes = text }
-joined-split p text =
+joined-split : (k p : ℕ) (text : List ℕ) → joined (linesAt k p (split text)) ≡ record { place = p; bytes = text }
+joined-split k p text =
     let t = splits text in
-    rw (t .is) (joined-lines p (t .first) (t .rest) ∙ rw (t .joined))
+    rw (t .is) (joined-lines k p (t .first) (t .rest) ∙ rw (t .joined))
 
 pub empty-is : (x : List ℕ) → isEmpty x ≡ true → [] ≡ x
 unfolding isEmpty
 empty-is [] e = refl
 empty-is (b ∷ x) e = absurd (false≢true e)
 
-pub joined-linesOf : (p : ℕ) (text : List ℕ) → joined (linesAt p (linesOf text)) .bytes ≡ text
+pub joined-linesOf : (k p : ℕ) (text : List ℕ) → joined (linesAt k p (linesOf text)) .bytes ≡ text
 unfolding linesOf linesAt joined
-joined-linesOf p text =
+joined-linesOf k p text =
     by-test (isEmpty text)
     (λ y. rw y (empty-is text y))
-    (λ n. rw n (ap (λ q. q .bytes) (joined-split p text)))
+    (λ n. rw n (ap (λ q. q .bytes) (joined-split k p text)))
 
 -- a block whose first line is its timing line, one whose second line is, and one that has none
 timing-first :
-    (seen : Bool) (l : Part) (ls : List Part) → holdsArrow (l .bytes) ≡ true → meaning seen (l ∷ ls) ≡ cueOf nowhere ls (timingLine l)
+    (seen : Bool) (l : Line) (ls : List Line)
+    → holdsArrow (l .bytes) ≡ true
+    → meaning seen (l ∷ ls) ≡ cueOf nowhere ls (timingLine (linePart l))
 unfolding meaning
 timing-first seen l [] a = rw a
 timing-first seen l (m ∷ ms) a = rw a
 
-module _ (seen : Bool) (l m : Part) (ls : List Part) (a : holdsArrow (l .bytes) ≡ false) where
-  timing-second : holdsArrow (m .bytes) ≡ true → meaning seen (l ∷ m ∷ ls) ≡ cueOf l ls (timingLine m)
+module _ (seen : Bool) (l m : Line) (ls : List Line) (a : holdsArrow (l .bytes) ≡ false) where
+  timing-second : holdsArrow (m .bytes) ≡ true → meaning seen (l ∷ m ∷ ls) ≡ cueOf (linePart l) ls (timingLine (linePart m))
   unfolding meaning
   timing-second b = rw (a, b)
 
@@ -533,58 +551,59 @@ module _ (seen : Bool) (l m : Part) (ls : List Part) (a : holdsArrow (l .bytes) 
 pub record CueOf (id t text : List ℕ) (i : Item) : Type 0 where
   pub name : Part
   pub line : Part
-  pub rest : List Part
+  pub rest : List Line
   pub is : i ≡ cueOf name rest (timingLine line)
   pub named : name .bytes ≡ id
   pub timed : line .bytes ≡ t
   pub says : joined rest .bytes ≡ text
 
 found :
-    {id t text : List ℕ} {i : Item} (q : ℕ) (name line : Part)
+    {id t text : List ℕ} {i : Item} (k q : ℕ) (name line : Part)
     → name .bytes ≡ id
     → line .bytes ≡ t
-    → i ≡ cueOf name (linesAt q (linesOf text)) (timingLine line)
+    → i ≡ cueOf name (linesAt k q (linesOf text)) (timingLine line)
     → CueOf id t text i
-found {text = text} q name line n t e =
-    record { name = name; line = line; rest = linesAt q (linesOf text); is = e; named = n; timed = t; says = joined-linesOf q text }
+found {text = text} k q name line n t e =
+    record { name = name; line = line; rest = linesAt k q (linesOf text); is = e; named = n; timed = t; says = joined-linesOf k q text }
 
 pub cue-means :
-    (seen : Bool) (p : ℕ) (id t text : List ℕ)
+    (seen : Bool) (k p : ℕ) (id t text : List ℕ)
     → absent lf id ≡ true
     → holdsArrow id ≡ false
     → holdsArrow t ≡ true
-    → CueOf id t text (meaning seen (linesAt p (linesOf id ++ t ∷ linesOf text)))
+    → CueOf id t text (meaning seen (linesAt k p (linesOf id ++ t ∷ linesOf text)))
 unfolding linesAt
-cue-means seen p id t text w a b =
+cue-means seen k p id t text w a b =
     by-test (isEmpty id)
-    (λ y. let line : Part = record { place = p; bytes = t } in
+    (λ y. let line : Line = record { number = k; place = p; bytes = t } in
     let q = p + suc (length t) in
-    rw (lines-none id y) (found q nowhere line (empty-is id y) refl (timing-first seen line (linesAt q (linesOf text)) b)))
-    (λ n. let name : Part = record { place = p; bytes = id } in
-    let line : Part = record { place = p + suc (length id); bytes = t } in
+    rw (lines-none id y)
+    (found (suc k) q nowhere (linePart line) (empty-is id y) refl (timing-first seen line (linesAt (suc k) q (linesOf text)) b)))
+    (λ n. let name : Line = record { number = k; place = p; bytes = id } in
+    let line : Line = record { number = suc k; place = p + suc (length id); bytes = t } in
     let q = p + suc (length id) + suc (length t) in
-    rw (lines-one id w n) (found q name line refl refl (timing-second seen name line (linesAt q (linesOf text)) a b)))
+    let rest = linesAt (suc (suc k)) q (linesOf text) in
+    rw (lines-one id w n) (found (suc (suc k)) q (linePart name) (linePart line) refl refl (timing-second seen name line rest a b)))
 
 -- a definition: a word without `-->`, and quiet lines
 defines :
-    (seen : Bool) (p : ℕ) (word l : List ℕ) (ls : List (List ℕ))
+    (seen : Bool) (k p : ℕ) (word l : List ℕ) (ls : List (List ℕ))
     → holdsArrow word ≡ false
     → noArrow (l ∷ ls) ≡ true
-    → meaning seen (linesAt p (word ∷ l ∷ ls))
-    ≡ definition seen (record { place = p; bytes = word }) (linesAt (p + suc (length word)) (l ∷ ls))
+    → meaning seen (linesAt k p (word ∷ l ∷ ls))
+    ≡ definition seen (record { number = k; place = p; bytes = word }) (linesAt (suc k) (p + suc (length word)) (l ∷ ls))
 unfolding linesAt noArrow
-defines seen p word l ls a n =
-    timing-none seen (record { place = p; bytes = word }) (record { place = p + suc (length word); bytes = l })
-    (linesAt (p + suc (length word) + suc (length l)) ls) a (not-left (holdsArrow l) (noArrow ls) n)
+defines seen k p word l ls a n =
+    timing-none seen (record { number = k; place = p; bytes = word }) (record { number = suc k; place = p + suc (length word); bytes = l })
+    (linesAt (suc (suc k)) (p + suc (length word) + suc (length l)) ls) a (not-left (holdsArrow l) (noArrow ls) n)
 
-defines-style : (p : ℕ) (ls : List Part) → definition false (record { place = p; bytes = ascii "STYLE" }) ls ≡ style (joined ls)
+defines-style : (l : Line) (ls : List Line) → l .bytes ≡ ascii "STYLE" → definition false l ls ≡ style (joined ls)
 unfolding definition isWord startsWith all
-defines-style p ls = refl
+defines-style l ls e = rw e refl
 
-defines-region :
-    (p : ℕ) (ls : List Part) → definition false (record { place = p; bytes = ascii "REGION" }) ls ≡ regionOf (regionSettings (joined ls))
+defines-region : (l : Line) (ls : List Line) → l .bytes ≡ ascii "REGION" → definition false l ls ≡ regionOf (regionSettings (joined ls))
 unfolding definition isWord startsWith all
-defines-region p ls = refl
+defines-region l ls e = rw e refl
 
 style-arrow : holdsArrow (ascii "STYLE") ≡ false
 unfolding holdsArrow startsWith
@@ -595,25 +614,25 @@ unfolding holdsArrow startsWith
 region-arrow = refl
 
 pub style-means :
-    (p : ℕ) (text : List ℕ)
+    (k p : ℕ) (text : List ℕ)
     → unbrokenText text ≡ true
-    → meaning false (linesAt p (styleLines text)) ≡ style (record { place = p + 6; bytes = text })
+    → meaning false (linesAt k p (styleLines text)) ≡ style (record { place = p + 6; bytes = text })
 unfolding styleLines
-style-means p text e =
+style-means k p text e =
     let t = splits text in
     let plain : noArrow (t .first ∷ t .rest) ≡ true = rw (t .is) at (quiet-split text e .plain) in
-    rw (t .is) (defines false p (ascii "STYLE") (t .first) (t .rest) style-arrow plain)
-    ∙ defines-style p (linesAt (p + 6) (t .first ∷ t .rest))
-    ∙ ap style (rw (t .is) at (joined-split (p + 6) text))
+    rw (t .is) (defines false k p (ascii "STYLE") (t .first) (t .rest) style-arrow plain)
+    ∙ defines-style (record { number = k; place = p; bytes = ascii "STYLE" }) (linesAt (suc k) (p + 6) (t .first ∷ t .rest)) refl
+    ∙ ap style (rw (t .is) at (joined-split (suc k) (p + 6) text))
 
 pub region-means :
-    (p : ℕ) (l : List ℕ) (ls : List (List ℕ))
+    (k p : ℕ) (l : List ℕ) (ls : List (List ℕ))
     → noArrow (l ∷ ls) ≡ true
-    → meaning false (linesAt p (ascii "REGION" ∷ l ∷ ls)) ≡ regionOf (regionSettings (record { place = p + 7; bytes = join (l ∷ ls) }))
-region-means p l ls n =
-    defines false p (ascii "REGION") l ls region-arrow n
-    ∙ defines-region p (linesAt (p + 7) (l ∷ ls))
-    ∙ ap (λ q. regionOf (regionSettings q)) (joined-lines (p + 7) l ls)
+    → meaning false (linesAt k p (ascii "REGION" ∷ l ∷ ls)) ≡ regionOf (regionSettings (record { place = p + 7; bytes = join (l ∷ ls) }))
+region-means k p l ls n =
+    defines false k p (ascii "REGION") l ls region-arrow n
+    ∙ defines-region (record { number = k; place = p; bytes = ascii "REGION" }) (linesAt (suc k) (p + 7) (l ∷ ls)) refl
+    ∙ ap (λ q. regionOf (regionSettings q)) (joined-lines (suc k) (p + 7) l ls)
 
 -- a row that no test refuses passes each of them
 pub none-fails : (n : ℕ) (ts : List Bool) → firstFailing n ts ≡ none → All (λ t. t ≡ true) ts

@@ -7,11 +7,11 @@ use native.Mathlib.Omega.{arith}
 use lib.ListN.{length, getD}
 use borrow.Author.Tests.{eq-eqb, ne-eqb}
 use Rattle.format.specs.Bytes.{lf}
-use Rattle.format.specs.Texts.{Part, isEmpty}
+use Rattle.format.specs.Texts.{isEmpty}
 use Rattle.laws.proofs.Runs.{run-stop}
 use Rattle.format.specs.Blocks.{between, blocksFrom}
 use Rattle.blocks.specs.Collecting.{linesFrom}
-use Rattle.blocks.proofs.LineLaws.{inLine, lineAt, lines-next}
+use Rattle.blocks.proofs.LineLaws.{inLine, lineAt, lineFrom, lines-next}
 use Rattle.blocks.proofs.BlockLaws.{fresh-empty, fresh-behind, block-at}
 use borrow.Author.Needs.{needs}
 use Rattle.blocks.proofs.next_block.Statement.{statement}
@@ -57,8 +57,7 @@ loop-again c =
     let i = at .loop .i in
     let none : lineAt s i ≡ [] = run-stop inLine s i (omega arith) (ap not (eq-eqb (getD s i 0) lf (c .if1 .left))) in
     let lines = lines-next s i i (omega arith) (omega (arith, ap length none)) in
-    let l : Part = record { place = i; bytes = lineAt s i } in
-    (omega arith, at .loop .inv .1 ∙ ap (blocksFrom between) lines ∙ fresh-empty l (linesFrom s (i + 1)) (rw none refl))
+    (omega arith, at .loop .inv .1 ∙ ap (blocksFrom between) lines ∙ fresh-empty (lineFrom s i) (linesFrom s (i + 1)) (rw none refl))
 
 returns-2 : tie.Need-returns-2 Inv-loop μ-loop
 returns-2 c =

@@ -2,7 +2,7 @@
 use Prim.Native.Nat.{_-_}
 use mathlib.Core.Path.{_≡_, ap}
 use lib.ListN.{take}
-use Rattle.places.specs.Places.{lineEnds}
+use Rattle.blocks.specs.Collecting.{lineEnds}
 use Rattle.replace.proofs.CheckLaws.{gap-is}
 use borrow.Author.Needs.{needs}
 use Rattle.replace.proofs.gap_before.Statement.{statement}

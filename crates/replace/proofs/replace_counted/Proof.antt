@@ -8,7 +8,7 @@ returns : tie.Need-returns
 returns c =
     let start = c .before .before .before .before .before in
     let args = start .args in
-    no-such-cue (args .raw .now) (args .number) (args .text .now) (args .row) (args .out .now) (args .s .now) (start .pre .0 .text) (start .pre .1) (c .if1 .taken)
+    no-such-cue (args .raw .now) (args .number) (args .text .now) (args .row) (args .out .now) (args .s .now) (start .pre .0) (start .pre .1 .counted) (c .if1 .taken)
 
 replace-there-requires : tie.Need-replace-there-requires
 replace-there-requires c κs = search needs
@@ -21,7 +21,7 @@ returns-2 c =
     let done = c .before .before in
     let start = done .before .before .before .before .before .before .before in
     let args = start .args in
-    count-passed (args .raw .now) (args .number) (args .text .now) (args .row) (args .out .now) (args .s .now) (start .pre .0 .text) (start .pre .1) (done .before .before .if1 .left)
+    count-passed (args .raw .now) (args .number) (args .text .now) (args .row) (args .out .now) (args .s .now) (start .pre .0) (start .pre .1 .counted) (done .before .before .if1 .left)
     (done .replace-there .ensures)
 
 pub replace-counted-spec : {M : Type 1} → statement M

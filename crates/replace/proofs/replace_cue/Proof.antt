@@ -40,7 +40,7 @@ slice-aggregate-replace-in : tie.Need-slice-aggregate-replace-in
 slice-aggregate-replace-in c = sym (length-take-le _ _ (plain (c .before .before) .fits))
 
 replace-in-requires : tie.Need-replace-in-requires
-replace-in-requires c κs = let p = plain (c .before .before .before) in (p .text, p .size)
+replace-in-requires c κs = plain (c .before .before .before) .text
 
 enum-told : tie.Need-enum-told
 enum-told c = search needs

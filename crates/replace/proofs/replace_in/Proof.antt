@@ -3,17 +3,24 @@ use mathlib.Core.Path.{_≡_}
 use mathlib.Core.Bool.{true}
 use Rattle.format.specs.Blocks.{hasSignature}
 use Rattle.format.specs.Lists.{items, anyOver}
-use Rattle.places.specs.Counting.{Counts}
-use Rattle.replace.proofs.CheckLaws.{plain-text, text-size, no-signature, over-limit, file-passed}
+use Rattle.format.specs.Replacing.{nameLent}
+use Rattle.places.specs.Finding.{FoundIn}
+use Rattle.replace.proofs.CheckLaws.{no-signature, over-limit, file-passed}
 use borrow.Author.Needs.{needs}
 use Rattle.replace.proofs.replace_in.Statement.{statement}
 use Rattle.replace.proofs.replace_in.Tie as tie
 
-count-cues-requires : tie.Need-count-cues-requires
-count-cues-requires c κs =
-    let start = c .before .before .before .before in
-    let args = start .args in
-    (plain-text (args .raw .now) (args .number) (args .text .now) (args .row) (args .out .now) (args .s .now) (start .pre .0), text-size (args .raw .now) (args .number) (args .text .now) (args .row) (args .out .now) (args .s .now) (start .pre .0) (start .pre .1))
+array-read-part : tie.Need-array-read-part
+array-read-part c = search needs
+
+array-read-part-2 : tie.Need-array-read-part-2
+array-read-part-2 c = search needs
+
+part-requires : tie.Need-part-requires
+part-requires c κs = search needs
+
+survey-requires : tie.Need-survey-requires
+survey-requires c κs = search needs
 
 enum-told : tie.Need-enum-told
 enum-told c = search needs
@@ -21,31 +28,41 @@ enum-told c = search needs
 enum-told-2 : tie.Need-enum-told-2
 enum-told-2 c = search needs
 
-enum-known-count : tie.Need-enum-known-count
-enum-known-count c = search needs
+enum-known-found : tie.Need-enum-known-found
+enum-known-found c = search needs
+
+abbrev start-of : tie.After-survey → tie.Start
+start-of asked = asked .before .before .before .before .before .before
+
+-- the name that was looked for is the one lent
+found-in :
+    (told : tie.After-found)
+    → let args = start-of (told .before .before) .args in
+    FoundIn (args .s .now) (args .number) (nameLent (args .text .now) (args .t5)) (told .found .given .0 .0)
+unfolding nameLent
+found-in told =
+    let asked = told .before .before in
+    rw (told .found .given .1, asked .before .part .ensures) at (asked .survey .ensures)
 
 replace-counted-requires : tie.Need-replace-counted-requires
 replace-counted-requires c κs =
     let told = c .before .before in
-    let counted = told .before .before in
-    let start = counted .before .before .before .before .before in
-    let n : Counts (start .args .s .now) (told .count .given .0 .0) = rw (told .count .given .1) at (counted .count-cues .ensures) in
-    (record { text = start .pre .0; size = start .pre .1; signature = n .signature; within = n .within }, n .is)
+    (start-of (told .before .before) .pre, found-in told)
 
 returns : tie.Need-returns
 returns c =
-    let counted = c .before .before in
-    let start = counted .before .before .before .before .before in
+    let asked = c .before .before in
+    let start = start-of asked in
     let args = start .args in
-    no-signature (args .raw .now) (args .number) (args .text .now) (args .row) (args .out .now) (args .s .now) (start .pre .0) (rw (c .enum-told .given .1) at (counted .count-cues .ensures))
+    no-signature (args .raw .now) (args .number) (args .text .now) (args .t5) (args .out .now) (args .s .now) (start .pre) (rw (c .enum-told .given .1) at (asked .survey .ensures))
 
 returns-2 : tie.Need-returns-2
 returns-2 c =
-    let counted = c .before .before in
-    let start = counted .before .before .before .before .before in
+    let asked = c .before .before in
+    let start = start-of asked in
     let args = start .args in
-    let is : (hasSignature (args .s .now) ≡ true) × (anyOver (items (args .s .now)) ≡ true) = rw (c .enum-told2 .given .1) at (counted .count-cues .ensures) in
-    over-limit (args .raw .now) (args .number) (args .text .now) (args .row) (args .out .now) (args .s .now) (start .pre .0) (is .0) (is .1)
+    let is : (hasSignature (args .s .now) ≡ true) × (anyOver (items (args .s .now)) ≡ true) = rw (c .enum-told2 .given .1) at (asked .survey .ensures) in
+    over-limit (args .raw .now) (args .number) (args .text .now) (args .t5) (args .out .now) (args .s .now) (start .pre) (is .0) (is .1)
 
 same-length : tie.Need-same-length
 same-length c = search needs
@@ -54,20 +71,22 @@ returns-3 : tie.Need-returns-3
 returns-3 c =
     let done = c .before .before in
     let told = done .before .before .before in
-    let counted = told .before .before in
-    let start = counted .before .before .before .before .before in
+    let start = start-of (told .before .before) in
     let args = start .args in
-    let n : Counts (args .s .now) (told .count .given .0 .0) = rw (told .count .given .1) at (counted .count-cues .ensures) in
-    file-passed (args .raw .now) (args .number) (args .text .now) (args .row) (args .out .now) (args .s .now) (start .pre .0) (n .signature) (n .within) (done .replace-counted .ensures)
+    let is = found-in told in
+    file-passed (args .raw .now) (args .number) (args .text .now) (args .t5) (args .out .now) (args .s .now) (start .pre) (is .signature) (is .within) (done .replace-counted .ensures)
 
 pub replace-in-spec : {M : Type 1} → statement M
 replace-in-spec =
     tie.close
     (tie.spec
-    count-cues-requires
+    array-read-part
+    array-read-part-2
+    part-requires
+    survey-requires
     enum-told
     enum-told-2
-    enum-known-count
+    enum-known-found
     replace-counted-requires
     returns
     returns-2

@@ -26,7 +26,7 @@ is-new put =
     let s = start-of put in
     let args = s .args in
     file-is (args .raw .now) (args .s .now) (args .text .now) (args .row) (args .number) (args .own .from) (args .own .to) (start .raw-start .result) (end .raw-end .result)
-    (s .pre .0 .text) (s .pre .1) (s .pre .2)
+    (s .pre .0) (s .pre .1) (s .pre .2)
     (start .raw-start .ensures ∙ ap (rawStart (args .raw .now)) (first .lines-before .ensures))
     (end .raw-end .ensures ∙ ap (rawEnd (args .raw .now)) (last .lines-before2 .ensures))
 

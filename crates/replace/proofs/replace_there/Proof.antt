@@ -1,16 +1,23 @@
 -- `replace::replace_there` meets its contract.
-use mathlib.Core.Path.{sym, ap, _∙_}
+use mathlib.Core.Path.{_≡_, sym, ap, _∙_}
 use Rattle.format.specs.Replacing.{newCueFails, regionNames}
-use Rattle.replace.proofs.CheckLaws.{within-text, test-told, no-test, not-writable, writable-passed}
+use Rattle.writable.specs.Faults.{testNumber}
+use Rattle.replace.proofs.CheckLaws.{test-told, no-test, not-writable, writable-passed}
 use borrow.Author.Needs.{needs}
 use Rattle.replace.proofs.replace_there.Statement.{statement}
 use Rattle.replace.proofs.replace_there.Tie as tie
 
 new-cue-test-requires : tie.Need-new-cue-test-requires
-new-cue-test-requires c κs =
-    let start = c .before .before .before .before in
-    let args = start .args in
-    (within-text (args .raw .now) (args .s .now) (start .pre .0), start .pre .0 .within)
+new-cue-test-requires c κs = search needs
+
+-- what the number of the test says, in this file
+told :
+    (tested : tie.After-new-cue-test)
+    → let args = tested .before .before .before .before .before .args in
+    tested .new-cue-test .result ≡ testNumber (newCueFails (args .text .now) (args .row) (regionNames (args .s .now)))
+told tested =
+    let start = tested .before .before .before .before .before in
+    tested .new-cue-test .ensures (regionNames (start .args .s .now)) (start .pre .1 .named)
 
 returns : tie.Need-returns
 returns c =
@@ -18,13 +25,13 @@ returns c =
     let start = tested .before .before .before .before .before in
     let args = start .args in
     not-writable (args .raw .now) (args .number) (args .text .now) (args .row) (args .out .now)
-    (test-told (args .raw .now) (args .s .now) (args .text .now) (args .row) (start .pre .0 .text) (tested .new-cue-test .ensures) (c .if1 .taken))
+    (test-told (args .raw .now) (args .s .now) (args .text .now) (args .row) (start .pre .0) (told tested) (c .if1 .taken))
 
 replace-found-requires : tie.Need-replace-found-requires
 replace-found-requires c κs =
     let tested = c .before .before in
     let start = tested .before .before .before .before .before in
-    (start .pre .0, start .pre .1, no-test (start .args .s .now) (start .args .text .now) (start .args .row) (tested .new-cue-test .ensures) (c .before .if1 .left))
+    (start .pre .0, start .pre .1, start .pre .2, no-test (start .args .s .now) (start .args .text .now) (start .args .row) (told tested) (c .before .if1 .left))
 
 same-length : tie.Need-same-length
 same-length c = search needs
@@ -36,8 +43,8 @@ returns-2 c =
     let start = tested .before .before .before .before .before in
     let args = start .args in
     writable-passed (args .raw .now) (args .number) (args .text .now) (args .row) (args .out .now)
-    (ap (λ s. newCueFails (args .text .now) (args .row) (regionNames s)) (sym (start .pre .0 .text))
-    ∙ no-test (args .s .now) (args .text .now) (args .row) (tested .new-cue-test .ensures) (done .before .before .if1 .left))
+    (ap (λ s. newCueFails (args .text .now) (args .row) (regionNames s)) (sym (start .pre .0))
+    ∙ no-test (args .s .now) (args .text .now) (args .row) (told tested) (done .before .before .if1 .left))
     (done .replace-found .ensures)
 
 pub replace-there-spec : {M : Type 1} → statement M

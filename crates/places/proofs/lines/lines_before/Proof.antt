@@ -9,7 +9,7 @@ use borrow.Author.Needs.{needs}
 use borrow.Author.Tests.{eq-eqb, ne-eqb}
 use Rattle.format.specs.Bytes.{lf}
 use Rattle.lookup.proofs.NameLaws.{take-min}
-use Rattle.places.specs.Places.{lineEnds}
+use Rattle.blocks.specs.Collecting.{lineEnds}
 use Rattle.places.proofs.PlaceLaws.{ends-next}
 use Rattle.places.proofs.lines.lines_before.Statement.{statement}
 use Rattle.places.proofs.lines.lines_before.Tie as tie

@@ -1,13 +1,14 @@
 -- `places::testing::new_cue_test` meets its contract.
+use Prim.Native.Nat.{ℕ}
 use native.Mathlib.Omega.{arith}
 use mathlib.Core.Path.{_≡_, refl, ap, _∙_}
 use mathlib.Core.Bool.{false}
-use mathlib.Core.List.{[], _∷_}
+use mathlib.Core.List.{List, [], _∷_}
 use Rattle.format.specs.Writable.{firstFailing, partPlain, cueTest1}
-use Rattle.format.specs.Texts.{bytesAt}
+use Rattle.format.specs.Texts.{isEmpty, bytesAt}
 use Rattle.format.specs.Rows.{newCueName}
-use Rattle.format.specs.Replacing.{nameLent, newTest1, newTest6, newCueFails, regionNames}
-use Rattle.laws.proofs.Tests.{and-false}
+use Rattle.format.specs.Replacing.{nameLent, newTest1, newTest6, newCueFails}
+use Rattle.laws.proofs.Tests.{and-false, or-true}
 use Rattle.values.proofs.NumberLaws.{empty-is, is-empty-not}
 use Rattle.writable.proofs.FaultLaws.{failed, passed}
 use Rattle.places.proofs.TestLaws.{fields-fail, name-decides}
@@ -21,29 +22,29 @@ new-cue-name-requires c κs = search needs
 -- what the test of the name's place says, and the name that is cut out
 plain-is :
     (c : tie.After-part-plain)
-    → let a = c .before .before .before .before .args in c .part-plain .result ≡ partPlain (a .text .now) (newCueName (a .row) .from) (newCueName (a .row) .to)
+    → let a = c .before .before .before .args in c .part-plain .result ≡ partPlain (a .text .now) (newCueName (a .row) .from) (newCueName (a .row) .to)
 plain-is c =
-    let a = c .before .before .before .before .args in
+    let a = c .before .before .before .args in
     c .part-plain .ensures ∙ ap (λ p. partPlain (a .text .now) (p .from) (p .to)) (c .before .new-cue-name .ensures)
 
-name-is : (c : tie.After-part) → let a = c .before .before .before .before .before .before .before .before .before .args in c .part .result .now ≡ nameLent (a .text .now) (a .row)
+name-is : (c : tie.After-part) → let a = c .before .before .before .before .before .before .before .before .args in c .part .result .now ≡ nameLent (a .text .now) (a .row)
 unfolding nameLent
 name-is c =
     let place = c .before .before .before .before .before .before in
-    let a = place .before .before .before .args in
+    let a = place .before .before .args in
     c .part .ensures ∙ ap (λ p. bytesAt (a .text .now) (p .from) (p .to)) (place .new-cue-name .ensures)
 
 -- what is left to test where the fields pass
 left :
-    (named : tie.After-part)
-    → let a = named .before .before .before .before .before .before .before .before .before .args in
-    newCueFails (a .text .now) (a .row) (regionNames (a .s .now)) ≡ firstFailing 6 (newTest6 (a .text .now) (a .row) (regionNames (a .s .now)) ∷ [])
-left named =
+    (named : tie.After-part) (names : List (List ℕ))
+    → let a = named .before .before .before .before .before .before .before .before .args in
+    newCueFails (a .text .now) (a .row) names ≡ firstFailing 6 (newTest6 (a .text .now) (a .row) names ∷ [])
+left named names =
     let found = named .before .before in
     let words = found .before in
     let plain = words .before .before in
-    let a = plain .before .before .before .before .args in
-    name-decides (a .text .now) (a .row) _ (regionNames (a .s .now)) (passed (plain-is plain) (words .before .if1 .left))
+    let a = plain .before .before .before .args in
+    name-decides (a .text .now) (a .row) _ names (passed (plain-is plain) (words .before .if1 .left))
     (words .cue-of-new .ensures) (found .cue-fields-test .ensures) (named .before .if2 .left)
 
 part-plain-requires : tie.Need-part-plain-requires
@@ -51,7 +52,7 @@ part-plain-requires c κs = search needs
 
 returns : tie.Need-returns
 unfolding newCueFails newTest1 firstFailing
-returns c = rw (failed (plain-is (c .before)) (c .if1 .taken), and-false (cueTest1 _ _) false refl)
+returns c names e = rw (failed (plain-is (c .before)) (c .if1 .taken), and-false (cueTest1 _ _) false refl)
 
 cue-of-new-requires : tie.Need-cue-of-new-requires
 cue-of-new-requires c κs = search needs
@@ -60,12 +61,12 @@ cue-fields-test-requires : tie.Need-cue-fields-test-requires
 cue-fields-test-requires c κs = search needs
 
 returns-2 : tie.Need-returns-2
-returns-2 c =
+returns-2 c names e =
     let found = c .before in
     let words = found .before in
     let plain = words .before .before in
-    let a = plain .before .before .before .before .args in
-    fields-fail (a .text .now) (a .row) _ (regionNames (a .s .now)) (passed (plain-is plain) (words .before .if1 .left))
+    let a = plain .before .before .before .args in
+    fields-fail (a .text .now) (a .row) _ names (passed (plain-is plain) (words .before .if1 .left))
     (words .cue-of-new .ensures) (found .cue-fields-test .ensures) (c .if2 .taken)
 
 part-requires : tie.Need-part-requires
@@ -73,26 +74,21 @@ part-requires c κs = search needs
 
 returns-3 : tie.Need-returns-3
 unfolding newTest6 firstFailing
-returns-3 c =
+returns-3 c names e =
     let named = c .before in
-    rw (left named, ← (name-is named), empty-is (named .part .result .now) (c .if3 .taken)) refl
-
-has-region-requires : tie.Need-has-region-requires
-has-region-requires c κs = search needs
+    rw (left named names, ← (name-is named), empty-is (named .part .result .now) (c .if3 .taken)) refl
 
 returns-4 : tie.Need-returns-4
 unfolding newTest6 firstFailing
-returns-4 c =
-    let asked = c .before in
-    let named = asked .before .before in
-    rw (left named, ← (name-is named), is-empty-not (named .part .result .now) (omega arith), ← (asked .has-region .ensures), c .if4 .taken) refl
+returns-4 c names e =
+    let named = c .before .before in
+    rw (left named names, ← e, c .if4 .taken, or-true (isEmpty (nameLent _ _))) refl
 
 returns-5 : tie.Need-returns-5
 unfolding newTest6 firstFailing
-returns-5 c =
-    let asked = c .before in
-    let named = asked .before .before in
-    rw (left named, ← (name-is named), is-empty-not (named .part .result .now) (omega arith), ← (asked .has-region .ensures), c .if4 .left) refl
+returns-5 c names e =
+    let named = c .before .before in
+    rw (left named names, ← e, c .if4 .left, ← (name-is named), is-empty-not (named .part .result .now) (omega arith)) refl
 
 pub new-cue-test-spec : {M : Type 1} → statement M
 new-cue-test-spec =
@@ -106,6 +102,5 @@ new-cue-test-spec =
     returns-2
     part-requires
     returns-3
-    has-region-requires
     returns-4
     returns-5)

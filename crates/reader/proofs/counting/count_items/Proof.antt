@@ -7,12 +7,13 @@ use native.Mathlib.Omega.{arith}
 use lib.Dec.{ltb}
 use lib.ListN.{length}
 use Rattle.format.specs.Lists.{Item, isCue, itemsFrom, itemOver}
-use Rattle.blocks.specs.Items.{meaningAt, NextAt, itemIs}
+use Rattle.blocks.specs.Items.{meaningAt, NextAt, itemIs, isOver}
 use Rattle.blocks.specs.declared.collecting.Stop.{Stop}
 use Rattle.reader.specs.declared.counting.Tally.{Tally}
 use Rattle.reader.specs.declared.counting.Tally.the-variants as Tally
-use Rattle.reader.specs.Counting.{isOver, withItem, tallyWith, tallyIs}
-use Rattle.reader.proofs.CountLaws.{fresh, items-next, moves, over-is, tally-end, tally-over, tally-next, seen-next, with-most}
+use Rattle.reader.specs.Counting.{withItem, tallyWith, tallyIs}
+use Rattle.blocks.proofs.WalkLaws.{fresh, items-next, moves, over-is}
+use Rattle.reader.proofs.CountLaws.{tally-end, tally-over, tally-next, seen-next, with-most}
 use borrow.Author.Needs.{needs}
 use Rattle.reader.proofs.counting.count_items.Statement.{statement}
 use Rattle.reader.proofs.counting.count_items.Tie as tie

@@ -10,7 +10,7 @@ use Rattle.format.specs.Lists.{itemsFrom, items}
 use Rattle.format.specs.Converting.{plainnessIs}
 use Rattle.laws.proofs.Answers.{not-plain, all-plain}
 use Rattle.reader.specs.Counting.{tallyIs}
-use Rattle.reader.proofs.CountLaws.{fresh}
+use Rattle.blocks.proofs.WalkLaws.{fresh}
 use Rattle.reader.proofs.ReadLaws.{too-long, refused-plain, unsigned, measured}
 use borrow.Author.Needs.{needs}
 use Rattle.reader.proofs.counting.measure.Statement.{statement}

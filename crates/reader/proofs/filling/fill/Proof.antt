@@ -6,7 +6,7 @@ use native.Mathlib.Omega.{arith}
 use lib.ListN.{length}
 use Rattle.blocks.specs.declared.collecting.Stop.{Stop}
 use Rattle.blocks.specs.Items.{NextAt}
-use Rattle.reader.proofs.CountLaws.{fresh, moves}
+use Rattle.blocks.proofs.WalkLaws.{fresh, moves}
 use Rattle.reader.proofs.FillLaws.{Fits, fits-of, Filled, fill-start, fill-room, fill-next, fill-end, fill-lengths}
 use borrow.Author.Needs.{needs}
 use Rattle.reader.proofs.filling.fill.Statement.{statement}

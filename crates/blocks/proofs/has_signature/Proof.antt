@@ -1,4 +1,4 @@
--- `reader::counting::has_signature` meets its contract.
+-- `blocks::has_signature` meets its contract.
 use mathlib.Core.Path.{_≡_, sym, _∙_}
 use native.Mathlib.Omega.{arith}
 use lib.ListN.{getD, drop}
@@ -6,10 +6,10 @@ use lib.Seq.{length-take-le}
 use borrow.Author.Tests.{eq-eqb, ne-eqb, not-true, not-false}
 use Rattle.format.specs.Bytes.{space, tab}
 use Rattle.format.specs.Blocks.{seventh, hasSignature}
-use Rattle.reader.proofs.CountLaws.{signature-short, signature-is, seventh-none, seventh-is}
+use Rattle.blocks.proofs.SignatureLaws.{signature-short, signature-is, seventh-none, seventh-is}
 use borrow.Author.Needs.{needs}
-use Rattle.reader.proofs.counting.has_signature.Statement.{statement}
-use Rattle.reader.proofs.counting.has_signature.Tie as tie
+use Rattle.blocks.proofs.has_signature.Statement.{statement}
+use Rattle.blocks.proofs.has_signature.Tie as tie
 
 returns : tie.Need-returns
 returns c = sym (signature-short (c .before .before .args .s .now) (c .if1 .taken))

@@ -1,0 +1,155 @@
+-- `places::finding::survey` meets its contract: what has been found, with what the blocks from `at` on give, is what the text has.
+use Prim.Native.Nat.{ℕ, _-_}
+use mathlib.Core.Path.{_≡_, sym, ap, _∙_}
+use mathlib.Core.Bool.{true}
+use mathlib.Core.List.{List, []}
+use native.Mathlib.Omega.{arith}
+use lib.Dec.{ltb}
+use lib.ListN.{length}
+use borrow.Author.Tests.{not-true, not-false}
+use Rattle.format.specs.Blocks.{hasSignature}
+use Rattle.format.specs.Lists.{Item, itemOver}
+use Rattle.blocks.specs.declared.collecting.Stop.{Stop}
+use Rattle.blocks.specs.Items.{meaningAt, NextAt, isOver}
+use Rattle.blocks.proofs.WalkLaws.{fresh, moves, over-is}
+use Rattle.places.proofs.FindLaws.{Walking, walk-start, walk-end, walk-over, walk-next}
+use borrow.Author.Needs.{needs}
+use Rattle.places.proofs.finding.survey.Statement.{statement}
+use Rattle.places.proofs.finding.survey.Tie as tie
+
+abbrev Inv-loop : tie.InvT-loop
+Inv-loop s number name at₀ found₀ at found = Walking s number name at found
+
+abbrev μ-loop : tie.MeasureT-loop
+μ-loop s number name at₀ found₀ at found = length s - at
+
+has-signature-requires : tie.Need-has-signature-requires Inv-loop μ-loop
+has-signature-requires c κs = search needs
+
+returns : tie.Need-returns Inv-loop μ-loop
+returns c =
+    let asked = c .before .has-signature in
+    sym (asked .ensures) ∙ not-true (asked .result) (c .if1 .taken)
+
+-- the text has the signature
+signed : (c : tie.Else1 Inv-loop μ-loop) → hasSignature (c .before .before .before .before .args .s .now) ≡ true
+signed c =
+    let asked = c .before .has-signature in
+    sym (asked .ensures) ∙ not-false (asked .result) (c .if1 .left)
+
+past-header-requires : tie.Need-past-header-requires Inv-loop μ-loop
+past-header-requires c κs = search needs
+
+loop-holds : tie.Need-loop-holds Inv-loop μ-loop
+loop-holds c =
+    let args = c .before .before .before .before .before .args in
+    let rest = c .past-header .ensures in
+    walk-start (args .s .now) (args .number) (args .name .now) (c .past-header .result) (rest .0) (rest .1)
+
+next-block-requires : tie.Need-next-block-requires Inv-loop μ-loop
+next-block-requires c κs = search needs
+
+enum-known-next : tie.Need-enum-known-next Inv-loop μ-loop
+enum-known-next c = search needs
+
+enum-told : tie.Need-enum-told Inv-loop μ-loop
+enum-told c = search needs
+
+returns-2 : tie.Need-returns-2 Inv-loop μ-loop
+returns-2 c =
+    let at = c .before .before .before in
+    let own = at .loop in
+    let out = at .before .before in
+    let args = out .before .before .before .before .args in
+    let none : fresh (args .s .now) (own .at) ≡ [] = rw (c .enum-told .given .1) at (c .before .before .next-block .ensures) in
+    walk-end (args .s .now) (args .number) (args .name .now) (own .at) (own .found) (own .inv) (signed out) none
+
+-- the block that was found, and its item
+module _ (c : tie.After-next Inv-loop μ-loop) where
+  abbrev at : tie.At-loop Inv-loop μ-loop
+  at = c .before .before .before
+
+  abbrev start : tie.Start Inv-loop μ-loop
+  start = at .before .before .before .before .before .before
+
+  abbrev s : List ℕ
+  s = start .args .s .now
+
+  abbrev number : ℕ
+  number = start .args .number
+
+  abbrev name : List ℕ
+  name = start .args .name .now
+
+  abbrev from : ℕ
+  from = c .next .given .0 .0
+
+  abbrev stop : Stop
+  stop = c .next .given .0 .1 .0
+
+  found : NextAt s (at .loop .at) from stop
+  found = rw (c .next .given .1) at (c .before .before .next-block .ensures)
+
+  abbrev item : Item
+  item = meaningAt (ltb 0 (at .loop .found .cues)) s from stop
+
+item-at-requires : tie.Need-item-at-requires Inv-loop μ-loop
+item-at-requires c κs =
+    let b = found (c .before .before) .block in
+    (b .starts, b .first-end, b .end-to, omega (arith, b .to-at, b .inside))
+
+is-over-requires : tie.Need-is-over-requires Inv-loop μ-loop
+is-over-requires c κs = search needs
+
+over : (c : tie.After-is-over Inv-loop μ-loop) → itemOver (item (c .before .before .before .before)) ≡ c .is-over .result
+over c =
+    let l = c .before .before .before .before in
+    sym (over-is (item l)) ∙ ap isOver (sym (c .before .item-at .ensures)) ∙ sym (c .is-over .ensures)
+
+returns-3 : tie.Need-returns-3 Inv-loop μ-loop
+returns-3 c =
+    let l = c .before .before .before .before .before in
+    let own = at l .loop in (
+      signed (at l .before .before),
+      walk-over (s l) (number l) (name l) (own .at) (own .found) (own .inv) (from l) (stop l) (found l) (over (c .before) ∙ c .if2 .taken),
+    )
+
+with-item-requires : tie.Need-with-item-requires Inv-loop μ-loop
+with-item-requires c κs =
+    let l = c .before .before .before .before .before in
+    let own = at l .loop in
+    omega (arith, own .inv .few, moves (s l) (own .at) (from l) (stop l) (found l), found l .block .inside)
+
+loop-less : tie.Need-loop-less Inv-loop μ-loop
+loop-less c =
+    let l = c .before .before .before .before .before .before in
+    omega (arith, moves (s l) (at l .loop .at) (from l) (stop l) (found l), found l .block .inside)
+
+loop-again : tie.Need-loop-again Inv-loop μ-loop
+loop-again c =
+    let read = c .before .before in
+    let l = read .before .before .before .before in
+    let own = at l .loop in
+    rw (c .with-item .ensures, read .before .item-at .ensures)
+    (walk-next (s l) (number l) (name l) (own .at) (own .found) (own .inv) (from l) (stop l) (found l) (over read ∙ c .before .if2 .left))
+
+pub survey-spec : {M : Type 1} → statement M
+survey-spec =
+    tie.close
+    (tie.spec
+    Inv-loop
+    μ-loop
+    has-signature-requires
+    returns
+    past-header-requires
+    loop-holds
+    next-block-requires
+    enum-known-next
+    enum-told
+    returns-2
+    item-at-requires
+    is-over-requires
+    returns-3
+    with-item-requires
+    loop-less
+    loop-again)

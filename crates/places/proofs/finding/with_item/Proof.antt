@@ -1,0 +1,65 @@
+-- `places::finding::with_item` meets its contract.
+use borrow.Author.Needs.{needs}
+use Rattle.places.proofs.finding.with_item.Statement.{statement}
+use Rattle.places.proofs.finding.with_item.Tie as tie
+
+enum-told : tie.Need-enum-told
+enum-told c = search needs
+
+enum-told-2 : tie.Need-enum-told-2
+enum-told-2 c = search needs
+
+enum-told-3 : tie.Need-enum-told-3
+enum-told-3 c = search needs
+
+own-lines-requires : tie.Need-own-lines-requires
+own-lines-requires c κs = search needs
+
+add-t16 : tie.Need-add-t16
+add-t16 c = search needs
+
+enum-told-4 : tie.Need-enum-told-4
+enum-told-4 c = search needs
+
+enum-known-item : tie.Need-enum-known-item
+enum-known-item c = search needs
+
+is-named-requires : tie.Need-is-named-requires
+is-named-requires c κs = search needs
+
+returns : tie.Need-returns
+returns c = search needs
+
+returns-2 : tie.Need-returns-2
+returns-2 c = search needs
+
+returns-3 : tie.Need-returns-3
+returns-3 c = rw (c .before .enum-told3 .given .1, c .own-lines .ensures)
+
+returns-4 : tie.Need-returns-4
+returns-4 c = search needs
+
+returns-5 : tie.Need-returns-5
+returns-5 c = rw (c .before .before .before .before .item .given .1, c .if1 .taken)
+
+returns-6 : tie.Need-returns-6
+returns-6 c = rw (c .before .before .before .before .before .item .given .1, c .before .if1 .left, c .is-named .ensures)
+
+pub with-item-spec : {M : Type 1} → statement M
+with-item-spec =
+    tie.close
+    (tie.spec
+    enum-told
+    enum-told-2
+    enum-told-3
+    own-lines-requires
+    add-t16
+    enum-told-4
+    enum-known-item
+    is-named-requires
+    returns
+    returns-2
+    returns-3
+    returns-4
+    returns-5
+    returns-6)
