@@ -11,10 +11,10 @@ use lib.Seq.{drop-cons, drop-drop, take-add}
 use native.Mathlib.Nat.{add-zero}
 use borrow.Author.Tests.{eqb-true, eqb-false, eq-eqb, ne-eqb, le-ltb, ltb-true, ltb-false, not-false}
 use Rattle.format.specs.Bytes.{lf}
-use Rattle.format.specs.Texts.{Part, nowhere, isEmpty, run}
-use Rattle.format.specs.Lines.{split, join, endedLines}
+use Rattle.format.specs.Texts.{Part, emptyPart, isEmpty, run}
+use Rattle.format.specs.Lines.{split, join, afterLineEnds}
 use Rattle.format.specs.TimingLines.{Timing, timingLine}
-use Rattle.format.specs.Blocks.{Line, linesAt, linePart, behindSignature, blocks, Collecting, between, header, inside, holdsArrow, canTime, stops, begin, goOn, collected, ended, next, blocksFrom, bytesOf, joined}
+use Rattle.format.specs.Blocks.{Line, linesAt, linePart, afterSignature, blocks, Collecting, between, header, inside, holdsArrow, canTime, stops, begin, goOn, collected, ended, next, blocksFrom, bytesOf, joined}
 use Rattle.format.specs.Lists.{nothing, cueOf, definition, meaning}
 use Rattle.format.specs.Replacing.{firstNumber}
 use Rattle.laws.proofs.Tests.{by-test, and-swap, absent}
@@ -25,10 +25,10 @@ use Rattle.values.proofs.NumberLaws.{is-empty-not}
 use Rattle.blocks.specs.declared.collecting.Head.{Head}
 use Rattle.blocks.specs.declared.collecting.Stop.{Stop}
 use Rattle.blocks.specs.Collecting.{lineEnds, linesFrom, headAfter, collectFrom}
-use Rattle.blocks.specs.Items.{part, behindLine, cueWith, definitionWith, meaningAt, BlockAt}
+use Rattle.blocks.specs.Items.{part, afterLine, cueWith, definitionWith, meaningAt, BlockAt}
 use Rattle.blocks.proofs.LineLaws.{inLine, lineAt, lineFrom, lines-next, lines-end, collect-line}
 
--- how many of the next lines can be the timing line, behind one line more
+-- how many of the next lines can be the timing line, after one line more
 nextLeft : ℕ → Bool → ℕ
 nextLeft k arrow = cond (eqb k 0) 0 (cond arrow 0 (k - 1))
 
@@ -109,7 +109,7 @@ head-left h e arrow =
 abbrev slice : List ℕ → ℕ → ℕ → List ℕ
 slice s from to = take (to - from) (drop from s)
 
--- the line that begins at a place, and what stands behind it
+-- the line that begins at a place, and what stands after it
 abbrev endAt : List ℕ → ℕ → ℕ
 endAt s p = p + length (lineAt s p)
 
@@ -128,7 +128,7 @@ module _ (s : List ℕ) (p : ℕ) (l : p ≤ length s) where
       let after = run-after inLine s p lineEnd (run-at inLine s p lineEnd l refl) k in
       eqb-true (getD s lineEnd 0) lf (not-false (eqb (getD s lineEnd 0) lf) after)
 
-  -- a line and a part behind it
+  -- a line and a part after it
   line-more : (to : ℕ) → lineEnd ≤ to → slice s p to ≡ lineAt s p ++ slice s lineEnd to
   line-more to k =
       let e : to - p ≡ length (lineAt s p) + (to - lineEnd) = omega arith in
@@ -150,15 +150,15 @@ slice-lf s e to c l k =
 slice-none : (s : List ℕ) (e : ℕ) → slice s e e ≡ []
 slice-none s e = let n : e - e ≡ 0 = omega arith in rw n
 
--- what collecting takes of the lines behind one that ends at e, and where it stops
+-- what collecting takes of the lines after one that ends at e, and where it stops
 record Took (s : List ℕ) (e : ℕ) (h : Head) (ls : List Line) : Type 0 where
   goes : fresh (rest (h .left) ls) ≡ fresh (linesFrom s (collectFrom h e ls .at))
   upto : collectFrom h e ls .to ≤ collectFrom h e ls .at
   within : collectFrom h e ls .at ≤ length s
   not-before : e ≤ collectFrom h e ls .to
-  bytes : endedLines (bytesOf (taken (h .left) ls)) ≡ slice s e (collectFrom h e ls .to)
+  bytes : afterLineEnds (bytesOf (taken (h .left) ls)) ≡ slice s e (collectFrom h e ls .to)
   whole : unbroken (bytesOf (taken (h .left) ls)) ≡ true
-  first : joined (taken (h .left) ls) ≡ cond (eqb e (collectFrom h e ls .to)) nowhere (record { place = e + 1; bytes = join (bytesOf (taken (h .left) ls)) })
+  first : joined (taken (h .left) ls) ≡ cond (eqb e (collectFrom h e ls .to)) emptyPart (record { place = e + 1; bytes = join (bytesOf (taken (h .left) ls)) })
 
 last-line : (s : List ℕ) → fresh (linesFrom s (length s)) ≡ []
 unfolding blocksFrom collected isEmpty run
@@ -167,10 +167,10 @@ last-line s =
     rw (lines-next s (length s) (length s) (omega arith) (sym (ap (λ x. length s + length x) none ∙ add-zero (length s))), none, lines-end s (length s + 1) (omega arith))
     (fresh-empty (record { number = lineEnds (take (length s) s); place = length s; bytes = [] }) [] refl)
 
--- no block begins at a text's end or behind it
-pub fresh-behind : (s : List ℕ) (p : ℕ) → length s ≤ p → fresh (linesFrom s p) ≡ []
+-- no block begins at a text's end or after it
+pub fresh-after : (s : List ℕ) (p : ℕ) → length s ≤ p → fresh (linesFrom s p) ≡ []
 unfolding blocksFrom collected
-fresh-behind s p l =
+fresh-after s p l =
     by-test (ltb (length s) p)
     (λ y. rw (lines-end s p (ltb-true (length s) p y)) refl)
     (λ n. let e : p ≡ length s = omega (arith, ltb-false (length s) p n) in rw e (last-line s))
@@ -208,7 +208,7 @@ unfolding taken rest
 lines-step k l ms n = (rw n, rw n)
 
 took-end : (s : List ℕ) (e : ℕ) (h : Head) → e ≡ length s → Took s e h []
-unfolding taken rest collectFrom blocksFrom collected endedLines bytesOf joined unbroken
+unfolding taken rest collectFrom blocksFrom collected afterLineEnds bytesOf joined unbroken
 took-end s e h q =
     record {
       goes = rw q (sym (last-line s));
@@ -227,7 +227,7 @@ took-stop :
     → e < length s
     → stopAt (h .left) l ≡ true
     → Took s e h (l ∷ ms)
-unfolding endedLines bytesOf joined unbroken
+unfolding afterLineEnds bytesOf joined unbroken
 took-stop s e h l ms q p i y =
     let st = collect-stop h e l ms y in
     let at : collectFrom h e (l ∷ ms) .at ≡ e + 1 = st .0 ∙ p in
@@ -249,7 +249,7 @@ took-step :
     → stopAt (h .left) (lineFrom s (e + 1)) ≡ false
     → Took s (endAt s (e + 1)) (headAfter h (endAt s (e + 1)) (holdsArrow (lineAt s (e + 1)))) ms
     → Took s e h (lineFrom s (e + 1) ∷ ms)
-unfolding endedLines bytesOf joined unbroken
+unfolding afterLineEnds bytesOf joined unbroken
 took-step s e h ms i c n t =
     let p = e + 1 in
     let x = lineAt s p in
@@ -287,19 +287,19 @@ took s (suc n) e h f l c =
     (took s n e₂ (headAfter h e₂ (holdsArrow x)) (omega arith) (line-inside s (e + 1) (omega arith)) (line-lf s (e + 1) (omega arith))))))
     (λ z. let k = ltb-false e (length s) z in rw (lines-end s (e + 1) (omega arith)) (took-end s e h (omega arith)))
 
-ended-join : (ys : List (List ℕ)) (z : List ℕ) → endedLines ys ≡ lf ∷ z → join ys ≡ z
-unfolding endedLines join
+ended-join : (ys : List (List ℕ)) (z : List ℕ) → afterLineEnds ys ≡ lf ∷ z → join ys ≡ z
+unfolding afterLineEnds join
 ended-join [] z e = let f : _≡_ {A = ℕ} 0 1 = cc in absurd (omega arith)
 ended-join (y ∷ ys) z e = cc
 
 -- the lines taken, as one part
-behind-is :
+after-is :
     (s : List ℕ) (e : ℕ) (h : Head) (ls : List Line)
     → Took s e h ls
     → e ≤ length s
     → (e < length s → getD s e 0 ≡ lf)
-    → joined (taken (h .left) ls) ≡ behindLine s e (collectFrom h e ls .to)
-behind-is s e h ls t l c =
+    → joined (taken (h .left) ls) ≡ afterLine s e (collectFrom h e ls .to)
+after-is s e h ls t l c =
     let to = collectFrom h e ls .to in
     t .first
     ∙ by-test (eqb e to)
@@ -325,10 +325,10 @@ cue-with id ls (some t) = refl
 
 -- what a block means by its first lines
 meaning-first :
-    (seen : Bool) (l : Line) (ls : List Line) → holdsArrow (l .bytes) ≡ true → meaning seen (l ∷ ls) ≡ cueWith nowhere (joined ls) (timingLine (linePart l))
+    (seen : Bool) (l : Line) (ls : List Line) → holdsArrow (l .bytes) ≡ true → meaning seen (l ∷ ls) ≡ cueWith emptyPart (joined ls) (timingLine (linePart l))
 unfolding meaning
-meaning-first seen l [] y = rw y (cue-with nowhere [] (timingLine (linePart l)))
-meaning-first seen l (m ∷ ms) y = rw y (cue-with nowhere (m ∷ ms) (timingLine (linePart l)))
+meaning-first seen l [] y = rw y (cue-with emptyPart [] (timingLine (linePart l)))
+meaning-first seen l (m ∷ ms) y = rw y (cue-with emptyPart (m ∷ ms) (timingLine (linePart l)))
 
 meaning-one : (seen : Bool) (l : Line) → holdsArrow (l .bytes) ≡ false → meaning seen (l ∷ []) ≡ nothing
 unfolding meaning
@@ -361,8 +361,8 @@ module _ (s : List ℕ) (from : ℕ) (i : from < length s) (b : inLine (getD s f
   abbrev l₁ : Line
   l₁ = lineFrom s from
 
-  abbrev behind₁ : List Line
-  behind₁ = linesFrom s (e₁ + 1)
+  abbrev after₁ : List Line
+  after₁ = linesFrom s (e₁ + 1)
 
   inside₁ : from ≤ length s
   inside₁ = omega arith
@@ -373,38 +373,38 @@ module _ (s : List ℕ) (from : ℕ) (i : from < length s) (b : inLine (getD s f
   lf₁ : e₁ < length s → getD s e₁ 0 ≡ lf
   lf₁ = line-lf s from inside₁
 
-  lines₁ : linesFrom s from ≡ l₁ ∷ behind₁
+  lines₁ : linesFrom s from ≡ l₁ ∷ after₁
   lines₁ = lines-next s from e₁ inside₁ refl
 
   is₁ : linePart l₁ ≡ part s from e₁
   is₁ = ap (λ x. record { place = from; bytes = x }) (line-part s from inside₁)
 
-  took₁ : (h : Head) → Took s e₁ h behind₁
+  took₁ : (h : Head) → Took s e₁ h after₁
   took₁ h = took s (length s) e₁ h (omega arith) (line-inside s from inside₁) lf₁
 
-  -- the block, with what is known of its first lines behind the first one
+  -- the block, with what is known of its first lines after the first one
   block :
       (h : Head)
       → h .left ≡ nextLeft 2 (holdsArrow x₁)
-      → let st = collectFrom h e₁ behind₁ in
+      → let st = collectFrom h e₁ after₁ in
       st .head .first ≡ e₁
       → e₁ ≤ st .head .end
       → st .head .end ≤ st .to
-      → ((seen : Bool) → meaning seen (l₁ ∷ taken (h .left) behind₁) ≡ meaningAt seen s from st)
+      → ((seen : Bool) → meaning seen (l₁ ∷ taken (h .left) after₁) ≡ meaningAt seen s from st)
       → BlockAt s from st
   unfolding leftOf firstNumber bytesOf join unbroken
   block h k f e t m =
       let tk = took₁ h in
-      let more = bytesOf (taken (h .left) behind₁) in
-      let to = collectFrom h e₁ behind₁ .to in
+      let more = bytesOf (taken (h .left) after₁) in
+      let to = collectFrom h e₁ after₁ .to in
       let text : slice s from to ≡ join (x₁ ∷ more) = line-more s from inside₁ to (tk .not-before) ∙ ap (λ r. x₁ ++ r) (sym (tk .bytes)) in
       record {
-        lines = l₁ ∷ taken (h .left) behind₁;
+        lines = l₁ ∷ taken (h .left) after₁;
         divides =
             ap fresh lines₁
-            ∙ fresh-line l₁ behind₁ (is-empty-not x₁ some₁)
-            ∙ inside-is (l₁ ∷ []) behind₁
-            ∙ rw (sym k) (ap (λ r. (l₁ ∷ taken (h .left) behind₁) ∷ r) (tk .goes));
+            ∙ fresh-line l₁ after₁ (is-empty-not x₁ some₁)
+            ∙ inside-is (l₁ ∷ []) after₁
+            ∙ rw (sym k) (ap (λ r. (l₁ ∷ taken (h .left) after₁) ∷ r) (tk .goes));
         meant = m;
         begins = refl;
         covers = ap split text ∙ split-join x₁ more (rw (run-whole (drop from s)) (tk .whole));
@@ -418,14 +418,14 @@ module _ (s : List ℕ) (from : ℕ) (i : from < length s) (b : inLine (getD s f
   abbrev headFirst : Head
   headFirst = record { left = 0; first = e₁; end = e₁; timed = true }
 
-  first-timed : holdsArrow x₁ ≡ true → BlockAt s from (collectFrom headFirst e₁ behind₁)
+  first-timed : holdsArrow x₁ ≡ true → BlockAt s from (collectFrom headFirst e₁ after₁)
   unfolding nextLeft meaningAt
   first-timed y =
-      let hs = head-stays headFirst e₁ behind₁ refl in
+      let hs = head-stays headFirst e₁ after₁ refl in
       let tk = took₁ headFirst in
       block headFirst (rw y) (ap (λ h. h .first) hs) (omega (arith, ap (λ h. h .end) hs)) (omega (arith, ap (λ h. h .end) hs, tk .not-before))
-      (λ seen. meaning-first seen l₁ (taken 0 behind₁) y
-      ∙ rw (behind-is s e₁ headFirst behind₁ tk (line-inside s from inside₁) lf₁, is₁, hs, eq-eqb e₁ e₁ refl))
+      (λ seen. meaning-first seen l₁ (taken 0 after₁) y
+      ∙ rw (after-is s e₁ headFirst after₁ tk (line-inside s from inside₁) lf₁, is₁, hs, eq-eqb e₁ e₁ refl))
 
   module _ (n : holdsArrow x₁ ≡ false) where
     abbrev headOne : Head
@@ -436,10 +436,10 @@ module _ (s : List ℕ) (from : ℕ) (i : from < length s) (b : inLine (getD s f
     left₁ = rw n
 
     abbrev stop₁ : Stop
-    stop₁ = collectFrom headOne e₁ behind₁
+    stop₁ = collectFrom headOne e₁ after₁
 
     -- the first line is the only one
-    alone : stop₁ .head ≡ headOne → stop₁ .to ≡ e₁ → taken 1 behind₁ ≡ [] → BlockAt s from stop₁
+    alone : stop₁ .head ≡ headOne → stop₁ .to ≡ e₁ → taken 1 after₁ ≡ [] → BlockAt s from stop₁
     unfolding meaningAt
     alone hs t only =
         block headOne left₁ (ap (λ h. h .first) hs) (omega (arith, ap (λ h. h .end) hs)) (omega (arith, ap (λ h. h .end) hs, t))
@@ -461,13 +461,13 @@ module _ (s : List ℕ) (from : ℕ) (i : from < length s) (b : inLine (getD s f
       abbrev l₂ : Line
       l₂ = lineFrom s (e₁ + 1)
 
-      abbrev behind₂ : List Line
-      behind₂ = linesFrom s (e₂ + 1)
+      abbrev after₂ : List Line
+      after₂ = linesFrom s (e₂ + 1)
 
       inside₂ : e₁ + 1 ≤ length s
       inside₂ = omega arith
 
-      lines₂ : behind₁ ≡ l₂ ∷ behind₂
+      lines₂ : after₁ ≡ l₂ ∷ after₂
       lines₂ = lines-next s (e₁ + 1) e₂ inside₂ refl
 
       is₂ : linePart l₂ ≡ part s (e₁ + 1) e₂
@@ -476,25 +476,25 @@ module _ (s : List ℕ) (from : ℕ) (i : from < length s) (b : inLine (getD s f
       lf₂ : e₂ < length s → getD s e₂ 0 ≡ lf
       lf₂ = line-lf s (e₁ + 1) inside₂
 
-      took₂ : (h : Head) → Took s e₂ h behind₂
+      took₂ : (h : Head) → Took s e₂ h after₂
       took₂ h = took s (length s) e₂ h (omega arith) (line-inside s (e₁ + 1) inside₂) lf₂
 
       stopped : stopAt 1 l₂ ≡ true → BlockAt s from stop₁
       stopped y =
-          let st = collect-stop headOne e₁ l₂ behind₂ y in
+          let st = collect-stop headOne e₁ l₂ after₂ y in
           alone (ap (λ r. collectFrom headOne e₁ r .head) lines₂ ∙ st .2) (ap (λ r. collectFrom headOne e₁ r .to) lines₂ ∙ st .1)
-          (ap (taken 1) lines₂ ∙ lines-stop 1 l₂ behind₂ y .0)
+          (ap (taken 1) lines₂ ∙ lines-stop 1 l₂ after₂ y .0)
 
       module _ (g : stopAt 1 l₂ ≡ false) where
-        step₂ : (a : Bool) → holdsArrow x₂ ≡ a → stop₁ ≡ collectFrom (headAfter headOne e₂ a) e₂ behind₂
+        step₂ : (a : Bool) → holdsArrow x₂ ≡ a → stop₁ ≡ collectFrom (headAfter headOne e₂ a) e₂ after₂
         step₂ a q =
-            ap (collectFrom headOne e₁) lines₂ ∙ collect-step headOne e₁ l₂ behind₂ g ∙ ap (λ t. collectFrom (headAfter headOne e₂ t) e₂ behind₂) q
+            ap (collectFrom headOne e₁) lines₂ ∙ collect-step headOne e₁ l₂ after₂ g ∙ ap (λ t. collectFrom (headAfter headOne e₂ t) e₂ after₂) q
 
-        taken₂ : taken 1 behind₁ ≡ l₂ ∷ taken 0 behind₂
+        taken₂ : taken 1 after₁ ≡ l₂ ∷ taken 0 after₂
         unfolding nextLeft
         taken₂ =
             ap (taken 1) lines₂
-            ∙ lines-step 1 l₂ behind₂ g .0
+            ∙ lines-step 1 l₂ after₂ g .0
             ∙ by-test (holdsArrow x₂) (λ y. rw y) (λ m. rw m)
 
         abbrev headSecond : Head
@@ -503,16 +503,16 @@ module _ (s : List ℕ) (from : ℕ) (i : from < length s) (b : inLine (getD s f
         second-timed : holdsArrow x₂ ≡ true → BlockAt s from stop₁
         unfolding meaningAt
         second-timed y =
-            let st : stop₁ ≡ collectFrom headSecond e₂ behind₂ = step₂ true y in
-            let hs = head-stays headSecond e₂ behind₂ refl in
+            let st : stop₁ ≡ collectFrom headSecond e₂ after₂ = step₂ true y in
+            let hs = head-stays headSecond e₂ after₂ refl in
             let tk = took₂ headSecond in
             let f = ap (λ h. h .first) hs in
             let e = ap (λ h. h .end) hs in
             block headOne left₁ (rw st f) (rw st (omega (arith, e))) (rw st (omega (arith, e, tk .not-before)))
             (λ seen. ap (λ r. meaning seen (l₁ ∷ r)) taken₂
-            ∙ meaning-second seen l₁ l₂ (taken 0 behind₂) n y
+            ∙ meaning-second seen l₁ l₂ (taken 0 after₂) n y
             ∙ rw (
-              behind-is s e₂ headSecond behind₂ tk (line-inside s (e₁ + 1) inside₂) lf₂,
+              after-is s e₂ headSecond after₂ tk (line-inside s (e₁ + 1) inside₂) lf₂,
               is₁,
               is₂,
               st,
@@ -526,18 +526,18 @@ module _ (s : List ℕ) (from : ℕ) (i : from < length s) (b : inLine (getD s f
         untimed : holdsArrow x₂ ≡ false → BlockAt s from stop₁
         unfolding meaningAt
         untimed m =
-            let st : stop₁ ≡ collectFrom headNone e₂ behind₂ = step₂ false m in
-            let hs = head-stays headNone e₂ behind₂ refl in
+            let st : stop₁ ≡ collectFrom headNone e₂ after₂ = step₂ false m in
+            let hs = head-stays headNone e₂ after₂ refl in
             let tk = took₂ headNone in
             let f = ap (λ h. h .first) hs in
             let e = ap (λ h. h .end) hs in
-            let to = collectFrom headNone e₂ behind₂ .to in
-            let text : joined (l₂ ∷ taken 0 behind₂) ≡ behindLine s e₁ to =
-            ap joined (sym taken₂) ∙ behind-is s e₁ headOne behind₁ (took₁ headOne) (line-inside s from inside₁) lf₁ ∙ ap (λ x. behindLine s e₁ (x .to)) st in
+            let to = collectFrom headNone e₂ after₂ .to in
+            let text : joined (l₂ ∷ taken 0 after₂) ≡ afterLine s e₁ to =
+            ap joined (sym taken₂) ∙ after-is s e₁ headOne after₁ (took₁ headOne) (line-inside s from inside₁) lf₁ ∙ ap (λ x. afterLine s e₁ (x .to)) st in
             block headOne left₁ (rw st f) (rw st (omega (arith, e))) (rw st (omega (arith, e, tk .not-before)))
             (λ seen. ap (λ r. meaning seen (l₁ ∷ r)) taken₂
-            ∙ meaning-none seen l₁ l₂ (taken 0 behind₂) n m
-            ∙ ap (λ x. definitionWith seen x (joined (l₂ ∷ taken 0 behind₂))) (line-part s from inside₁)
+            ∙ meaning-none seen l₁ l₂ (taken 0 after₂) n m
+            ∙ ap (λ x. definitionWith seen x (joined (l₂ ∷ taken 0 after₂))) (line-part s from inside₁)
             ∙ rw (text, st, hs, ne-eqb e₁ to (λ q. absurd (omega (arith, tk .not-before)))))
 
     first-untimed : BlockAt s from stop₁
@@ -561,7 +561,7 @@ none-left : (a : Bool) (ms : List Line) → rest (nextLeft 0 a) ms ≡ rest 0 ms
 unfolding nextLeft
 none-left a ms = refl
 
--- the lines behind a header, which no line of it can end but an empty one or one with an arrow
+-- the lines after a header, which no line of it can end but an empty one or one with an arrow
 pub header-at :
     (s : List ℕ) (p : ℕ)
     → p ≤ length s
@@ -584,11 +584,11 @@ from-start : (s : List ℕ) → linesAt 0 0 (split s) ≡ linesFrom s 0
 unfolding linesFrom lineEnds
 from-start s = rw (le-ltb (length s) 0 (omega arith))
 
--- the blocks of a text are those of the lines behind its first, from the header on
-pub blocks-behind : (s : List ℕ) (e : ℕ) → e ≡ 0 + length (lineAt s 0) → blocks s ≡ blocksFrom header (linesFrom s (e + 1))
-unfolding blocks behindSignature
-blocks-behind s e q = ap behindSignature (from-start s ∙ lines-next s 0 e (omega arith) q)
+-- the blocks of a text are those of the lines after its first, from the header on
+pub blocks-after : (s : List ℕ) (e : ℕ) → e ≡ 0 + length (lineAt s 0) → blocks s ≡ blocksFrom header (linesFrom s (e + 1))
+unfolding blocks afterSignature
+blocks-after s e q = ap afterSignature (from-start s ∙ lines-next s 0 e (omega arith) q)
 
 pub no-blocks : (s : List ℕ) (e : ℕ) → e ≡ 0 + length (lineAt s 0) → e ≡ length s → blocks s ≡ fresh (linesFrom s e)
 unfolding blocksFrom collected
-no-blocks s e q l = blocks-behind s e q ∙ rw (lines-end s (e + 1) (omega arith), l) (sym (last-line s))
+no-blocks s e q l = blocks-after s e q ∙ rw (lines-end s (e + 1) (omega arith), l) (sym (last-line s))

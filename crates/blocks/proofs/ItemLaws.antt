@@ -22,7 +22,7 @@ use Rattle.values.specs.Tokens.{spanTo, partOf}
 use Rattle.values.proofs.NumberLaws.{is-empty-not}
 use Rattle.timing.specs.TimingLines.{timingLineIs}
 use Rattle.regions.specs.Changes.{takenIs}
-use Rattle.blocks.specs.Items.{part, behindLine, behindSpan, cueWith, itemIs, timedIs, regionItem}
+use Rattle.blocks.specs.Items.{part, afterLine, afterSpan, cueWith, itemIs, timedIs, regionItem}
 use Rattle.blocks.proofs.LineLaws.{starts-short}
 
 module _ (s : List ℕ) (a b : ℕ) (h : a ≤ b) (l : b ≤ length s) where
@@ -42,9 +42,9 @@ module _ (s : List ℕ) (a b : ℕ) (h : a ≤ b) (l : b ≤ length s) where
       let some : 0 < length (take (b - a) (drop a s)) = omega (arith, n, eqb-false a b f) in
       rw (f, is-empty-not (take (b - a) (drop a s)) some, end))
 
-pub behind-span : (s : List ℕ) (e to : ℕ) → e ≤ to → to ≤ length s → behindSpan e to ≡ spanIs (behindLine s e to)
+pub after-span : (s : List ℕ) (e to : ℕ) → e ≤ to → to ≤ length s → afterSpan e to ≡ spanIs (afterLine s e to)
 unfolding spanIs isEmpty
-behind-span s e to h l =
+after-span s e to h l =
     by-test (eqb e to) (λ y. rw y) (λ n. rw n (span-part s (e + 1) to (omega (arith, eqb-false e to n)) l))
 
 pub timed-is : (id text : Part) (o : Option Timing) → timedIs (spanIs id) (spanIs text) (timingLineIs o) ≡ itemIs (cueWith id text o)

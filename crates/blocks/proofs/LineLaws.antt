@@ -22,7 +22,7 @@ use Rattle.blocks.specs.Collecting.{lineEnds, linesFrom, headAfter, coll
 abbrev pub inLine : ℕ → Bool
 inLine b = not (eqb b lf)
 
--- the lines behind a text's first line
+-- the lines after a text's first line
 others : List ℕ → List (List ℕ)
 others s = cond (ltb (length (run inLine s)) (length s)) (split (drop (suc (length (run inLine s))) s)) []
 
@@ -73,7 +73,7 @@ pub lines-end : (s : List ℕ) (p : ℕ) → length s < p → linesFrom s p ≡ 
 unfolding linesFrom
 lines-end s p l = rw (lt-ltb (length s) p l)
 
--- a line, and those behind it
+-- a line, and those after it
 pub lines-next : (s : List ℕ) (p e : ℕ) → p ≤ length s → e ≡ p + length (lineAt s p) → linesFrom s p ≡ lineFrom s p ∷ linesFrom s (e + 1)
 unfolding linesFrom linesAt others
 lines-next s p e l q =

@@ -15,7 +15,7 @@ use Rattle.blocks.specs.Items.{meaningAt, NextAt, itemIs, isOver}
 abbrev pub fresh : List ℕ → ℕ → List (List Line)
 fresh s at = blocksFrom between (linesFrom s at)
 
--- the item of the next block, and those behind it
+-- the item of the next block, and those after it
 pub items-next :
     (s : List ℕ) (at from : ℕ) (st : Stop) (seen : Bool)
     → NextAt s at from st

@@ -18,7 +18,7 @@ unfoldable pub lineEnds : List ℕ → ℕ
 lineEnds [] = 0
 lineEnds (b ∷ s) = cond (eqb b lf) 1 0 + lineEnds s
 
--- the lines that begin at a place of a text, or behind it; a text ends one place before there are none
+-- the lines that begin at a place of a text, or after it; a text ends one place before there are none
 unfoldable pub linesFrom : List ℕ → ℕ → List Line
 linesFrom s p = cond (ltb (length s) p) [] (linesAt (lineEnds (take p s)) p (split (drop p s)))
 

@@ -7,7 +7,7 @@ use mathlib.Core.Option.{Option, none, some}
 use lib.Dec.{eqb}
 use lib.ListN.{length, take, drop}
 use Rattle.format.specs.Bytes.{ascii}
-use Rattle.format.specs.Texts.{Part, nowhere}
+use Rattle.format.specs.Texts.{Part, emptyPart}
 use Rattle.format.specs.RegionSettings.{regionSettings, regionIs}
 use Rattle.format.specs.TimingLines.{Timing, timingLine}
 use Rattle.format.specs.Lines.{split}
@@ -32,9 +32,9 @@ use Rattle.blocks.specs.declared.items.Item.the-variants as Read
 abbrev pub part : List ℕ → ℕ → ℕ → Part
 part s from to = record { place = from; bytes = take (to - from) (drop from s) }
 
--- the lines behind one that ends at e, up to the block's end
-abbrev pub behindLine : List ℕ → ℕ → ℕ → Part
-behindLine s e to = cond (eqb e to) nowhere (part s (e + 1) to)
+-- the lines after one that ends at e, up to the block's end
+abbrev pub afterLine : List ℕ → ℕ → ℕ → Part
+afterLine s e to = cond (eqb e to) emptyPart (part s (e + 1) to)
 
 abbrev pub cueWith : Part → Part → Option Timing → Item
 cueWith id text none = nothing
@@ -49,7 +49,7 @@ definitionWith seen first text =
 
 -- the identifier and the timing line of a block that has one
 abbrev pub idPart : List ℕ → ℕ → Stop → Part
-idPart s from st = cond (eqb (st .head .first) (st .head .end)) nowhere (part s from (st .head .first))
+idPart s from st = cond (eqb (st .head .first) (st .head .end)) emptyPart (part s from (st .head .first))
 
 abbrev pub timingPart : List ℕ → ℕ → Stop → Part
 timingPart s from st =
@@ -59,11 +59,11 @@ timingPart s from st =
 unfoldable pub meaningAt : Bool → List ℕ → ℕ → Stop → Item
 meaningAt seen s from st =
     cond (st .head .timed)
-    (cueWith (idPart s from st) (behindLine s (st .head .end) (st .to)) (timingLine (timingPart s from st)))
+    (cueWith (idPart s from st) (afterLine s (st .head .end) (st .to)) (timingLine (timingPart s from st)))
     (cond (eqb (st .head .first) (st .to)) nothing
-    (definitionWith seen (part s from (st .head .first) .bytes) (behindLine s (st .head .first) (st .to))))
+    (definitionWith seen (part s from (st .head .first) .bytes) (afterLine s (st .head .first) (st .to))))
 
--- a block of the text that begins at a place, and those behind it
+-- a block of the text that begins at a place, and those after it
 pub record BlockAt (s : List ℕ) (from : ℕ) (st : Stop) : Type 0 where
   pub lines : List Line
   pub divides : blocksFrom between (linesFrom s from) ≡ lines ∷ blocksFrom between (linesFrom s (st .at))
@@ -76,7 +76,7 @@ pub record BlockAt (s : List ℕ) (from : ℕ) (st : Stop) : Type 0 where
   pub to-at : st .to ≤ st .at
   pub inside : st .at ≤ length s
 
--- the block that was found at a place or behind it
+-- the block that was found at a place or after it
 pub record NextAt (s : List ℕ) (at from : ℕ) (st : Stop) : Type 0 where
   pub skipped : at ≤ from
   pub same : blocksFrom between (linesFrom s at) ≡ blocksFrom between (linesFrom s from)
@@ -104,8 +104,8 @@ isOver (Read.Cue c) = false
 isOver (Read.Style t) = false
 isOver (Read.Region r) = false
 
-abbrev pub behindSpan : ℕ → ℕ → Span
-behindSpan e to = cond (eqb e to) noSpan (spanTo (e + 1) to)
+abbrev pub afterSpan : ℕ → ℕ → Span
+afterSpan e to = cond (eqb e to) noSpan (spanTo (e + 1) to)
 
 abbrev pub timedIs : Span → Span → TimingLine → Made.Item
 timedIs id text TimingLine.Bad = Read.Nothing

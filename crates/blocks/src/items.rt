@@ -5,7 +5,7 @@ use format::settings::Settings;
 use format::settings::Span;
 use regions::RegionTaken;
 use timing::timing_line::TimingLine;
-use values::bytes::Kind;
+use values::bytes::ByteKind;
 ghost use mathlib.Core.Path.{_≡_};
 ghost use Prim.Native.Nat.{_+_, _≤_, _<_};
 ghost use lib.ListN.{length};
@@ -13,7 +13,7 @@ ghost use Rattle.format.specs.Lists.{isWord};
 ghost use Rattle.format.specs.TimingLines.{timingLine};
 ghost use Rattle.values.specs.Tokens.{partOf};
 ghost use Rattle.timing.specs.TimingLines.{timingLineIs};
-ghost use Rattle.blocks.specs.Items.{part, behindSpan, timedIs, regionItem, definitionIs, meaningAt, itemIs, isOver};
+ghost use Rattle.blocks.specs.Items.{part, afterSpan, timedIs, regionItem, definitionIs, meaningAt, itemIs, isOver};
 
 pub struct CueRead {
     pub id: Span,
@@ -47,10 +47,10 @@ pub fn is_over(item: Item) -> bool
     }
 }
 
-// The lines behind one that ends at `end`, up to the block's end.
-fn behind_line(end: usize, to: usize) -> Span
+// The lines after one that ends at `end`, up to the block's end.
+fn after_line(end: usize, to: usize) -> Span
     requires { ⌜ end ≤ to ⌝ }
-    ensures { λ r. ⌜ r ≡ behindSpan end to ⌝ }
+    ensures { λ r. ⌜ r ≡ afterSpan end to ⌝ }
 {
     if end == to {
         return Span::NONE;
@@ -78,7 +78,7 @@ fn timed_item(s: &[u8], from: usize, to: usize, id: Span, text: Span) -> Item
     }
 }
 
-// Is the line this word, with only whitespace behind it.
+// Is the line this word, with only whitespace after it.
 fn is_word(line: &[u8], word: &[u8]) -> bool
     ensures { λ r. ⌜ r ≡ isWord (now (word .entry)) (now (line .entry)) ⌝ }
 {
@@ -89,7 +89,7 @@ fn is_word(line: &[u8], word: &[u8]) -> bool
     if !values::bytes::same_bytes(&line[..n], word) {
         return false;
     }
-    values::bytes::past(line, n, Kind::White) == line.len()
+    values::bytes::past(line, n, ByteKind::White) == line.len()
 }
 
 fn region_item(taken: RegionTaken) -> Item
@@ -135,7 +135,7 @@ pub fn item_at(s: &[u8], from: usize, stop: Stop, seen: bool) -> Item
         }
         return definition(s, from, first, to, seen);
     }
-    let text = behind_line(end, to);
+    let text = after_line(end, to);
     if first == end {
         return timed_item(s, from, end, Span::NONE, text);
     }

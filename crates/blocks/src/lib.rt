@@ -1,7 +1,7 @@
 // The signature and the blocks of a plain text, one after the other, and what each of them gives. Every function ends in linear time.
 use collecting::Head;
 use collecting::Stop;
-use values::bytes::Kind;
+use values::bytes::ByteKind;
 ghost use mathlib.Core.Path.{_≡_};
 ghost use Prim.Native.Nat.{_≤_};
 ghost use lib.ListN.{length};
@@ -34,11 +34,11 @@ pub fn has_signature(s: &[u8]) -> bool
     b == b'\n'
 }
 
-// Where the lines begin that stand behind the first line of a text and a header.
+// Where the lines begin that stand after the first line of a text and a header.
 pub fn past_header(s: &[u8]) -> usize
     ensures { λ r. ⌜ (r ≤ length (now (s .entry))) × (blocks (now (s .entry)) ≡ blocksFrom between (linesFrom (now (s .entry)) r)) ⌝ }
 {
-    let end = values::bytes::past(s, 0, Kind::Until(b'\n'));
+    let end = values::bytes::past(s, 0, ByteKind::Until(b'\n'));
     if end == s.len() {
         return end;
     }
@@ -52,7 +52,7 @@ pub enum Next {
     Block { from: usize, stop: Stop },
 }
 
-// The next block that begins at `at` or behind it; none where that is behind the text.
+// The next block that begins at `at` or after it; none where that is after the text.
 pub fn next_block(s: &[u8], at: usize) -> Next
     ensures { λ r. ⌜ NextIs (now (s .entry)) at r ⌝ }
 {

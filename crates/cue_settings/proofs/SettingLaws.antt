@@ -9,7 +9,7 @@ use Rattle.format.specs.Bytes.{ascii, comma, percent}
 use Rattle.format.specs.Texts.{Part, isEmpty, same, endsWith, beforeFirst}
 use Rattle.format.specs.Numbers.{percentage, LineNumber, lineNumber, overLine, isNegative, millionths}
 use Rattle.format.specs.Tokens.{nameOf, valueOf}
-use Rattle.format.specs.CueSettings.{CueSettings, Taken, taken, isHorizontal, settingsIs, spanIs, direction, lineAlign, positionAlign, setRegion, setVertical, setLine, linePercentage, lineCounted, lineSetting, setPosition, positionOf, positionSetting, setSize, sizeOf, setAlign, named, cueSetting, settingsFrom}
+use Rattle.format.specs.CueSettings.{CueSettings, Taken, taken, isHorizontal, settingsIs, spanIs, direction, lineAlign, positionAlign, setRegion, setVertical, setLine, linePercentage, lineCounted, lineSetting, setPosition, positionGiven, positionSetting, setSize, sizeOf, setAlign, named, cueSetting, settingsFrom}
 use Rattle.format.specs.declared.settings.Direction.{Direction}
 use Rattle.format.specs.declared.settings.LinePlace.{LinePlace}
 use Rattle.format.specs.declared.settings.LineAlign.{LineAlign}
@@ -88,8 +88,8 @@ line-agrees x c = go (lineAlign x (c .line .align)) refl
 
 position-agrees :
     (o : Option ℕ) (a : Option PositionAlign) (c : CueSettings)
-    → Agrees (positionWith (percentageIs o) (positionAlignedIs a)) c (taken (positionOf o a c))
-unfolding positionOf setPosition
+    → Agrees (positionWith (percentageIs o) (positionAlignedIs a)) c (taken (positionGiven o a c))
+unfolding positionGiven setPosition
 position-agrees none a c = unchanged c
 position-agrees (some n) none c = unchanged c
 position-agrees (some n) (some a) c = record { same = refl; over = refl }

@@ -17,7 +17,7 @@ use setting_words::cue_name;
 use setting_words::direction_of;
 use setting_words::line_align;
 use setting_words::position_align;
-use values::bytes::Kind;
+use values::bytes::ByteKind;
 use values::numbers::LineNumber;
 use values::numbers::Percentage;
 use values::tokens::NameEnd;
@@ -95,7 +95,7 @@ fn line_number(place: &[u8], align: LineAlign) -> Change
 fn line_change(value: &[u8], current: LineAlign) -> Change
     ensures { λ r. ⌜ r ≡ lineChange (now (value .entry)) current ⌝ }
 {
-    let comma = values::bytes::past(value, 0, Kind::Until(b','));
+    let comma = values::bytes::past(value, 0, ByteKind::Until(b','));
     let place = &value[..comma];
     let aligned = line_align(value, current);
     let LineAligned::Good(align) = aligned else {
@@ -110,7 +110,7 @@ fn line_change(value: &[u8], current: LineAlign) -> Change
 fn position_change(value: &[u8], current: PositionAlign) -> Change
     ensures { λ r. ⌜ r ≡ positionChange (now (value .entry)) current ⌝ }
 {
-    let comma = values::bytes::past(value, 0, Kind::Until(b','));
+    let comma = values::bytes::past(value, 0, ByteKind::Until(b','));
     let place = &value[..comma];
     let read = values::numbers::read_percentage(place);
     let Percentage::Good(n) = read else {

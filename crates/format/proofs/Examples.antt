@@ -12,8 +12,7 @@ use Rattle.format.specs.Bytes.{digit}
 use Rattle.format.specs.Texts.{startsWith, endsWith, withoutLast, isEmpty, all, run, pastRun}
 use Rattle.format.specs.Numbers.{numberFrom, someDigits, decimalOf, decimal, above, millionths, upTo100, percentage}
 use Rattle.format.specs.Times.{onGot, expect, hoursFirst, field, threeValues, inRange, lastSteps, timestamp, milliseconds}
-use Rattle.format.specs.Trees.{parentWord, placeWords, nodeWords}
-use Rattle.format.specs.Examples.{Example, examples, wholeTime, readsAs, reads, RowsHold}
+use Rattle.format.specs.Examples.{Example, examples, wholeTime, readsAs, reads}
 
 sameResult : Option ℕ → Option ℕ → Bool
 sameResult none none = true
@@ -49,8 +48,3 @@ all-right = refl
 -- each row of the table
 pub examples-hold : (d : Example) (i : ℕ) → i < length examples → reads (getD examples i d) ≡ getD examples i d .gives
 examples-hold d i l = right-at examples d all-right i l
-
--- the words of a row stand in the order that callers rely on
-pub rows-hold : RowsHold
-unfolding nodeWords parentWord placeWords
-rows-hold = record { cue = (refl, refl); newCue = (refl, refl); region = (refl, refl); style = (refl, refl); node = refl }

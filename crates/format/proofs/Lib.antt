@@ -1,2 +1,3 @@
--- The proved table.
+-- The proved table, and the order of the words in a row.
 pub mod Examples
+pub mod RowWords

@@ -6,7 +6,7 @@ use mathlib.Core.List.{List, [], _∷_, _++_}
 use lib.Dec.{eqb}
 use lib.ListN.{length, drop}
 use Rattle.format.specs.Bytes.{ascii, space, tab, lf}
-use Rattle.format.specs.Texts.{startsWith, isEmpty, Part, nowhere}
+use Rattle.format.specs.Texts.{startsWith, isEmpty, Part, emptyPart}
 use Rattle.format.specs.Lines.{split, join}
 
 -- 6: the seventh character, if any
@@ -72,7 +72,7 @@ collected between = []
 collected header = []
 collected (inside ls) = ls ∷ []
 
--- what a line ends, and where collecting stands behind it: "in the third case the next block begins at that line"
+-- what a line ends, and where collecting stands after it: "in the third case the next block begins at that line"
 unfoldable pub ended : Collecting → Line → List (List Line)
 ended st l = cond (stops st l) (collected st) []
 
@@ -85,18 +85,18 @@ blocksFrom st [] = collected st
 blocksFrom st (l ∷ ls) = ended st l ++ blocksFrom (next st l) ls
 
 -- 7 to 11: "if a non-empty line follows directly, it starts a header block": the first line is passed over
-unfoldable pub behindSignature : List Line → List (List Line)
-behindSignature [] = []
-behindSignature (l ∷ ls) = blocksFrom header ls
+unfoldable pub afterSignature : List Line → List (List Line)
+afterSignature [] = []
+afterSignature (l ∷ ls) = blocksFrom header ls
 
 unfoldable pub blocks : List ℕ → List (List Line)
-blocks s = behindSignature (linesAt 0 0 (split s))
+blocks s = afterSignature (linesAt 0 0 (split s))
 
 unfoldable pub bytesOf : List Line → List (List ℕ)
 bytesOf [] = []
 bytesOf (l ∷ ls) = l .bytes ∷ bytesOf ls
 
--- lines that follow each other, "joined by LF: one unbroken part of the plain text"; no lines are the part that stands nowhere
+-- lines that follow each other, "joined by LF: one unbroken part of the plain text"; no lines are the part that stands emptyPart
 unfoldable pub joined : List Line → Part
-joined [] = nowhere
+joined [] = emptyPart
 joined (l ∷ ls) = record { place = l .place; bytes = join (bytesOf (l ∷ ls)) }

@@ -6,7 +6,7 @@ use mathlib.Core.Option.{Option, none, some}
 use lib.Dec.{eqb}
 use lib.ListN.{length}
 use Rattle.format.specs.Bytes.{ascii, comma, percent}
-use Rattle.format.specs.Texts.{Part, nowhere, isEmpty, same, endsWith, beforeFirst, behindFirst, has}
+use Rattle.format.specs.Texts.{Part, emptyPart, isEmpty, same, endsWith, beforeFirst, afterFirst, has}
 use Rattle.format.specs.Numbers.{percentage, LineNumber, lineNumber, overLine, isNegative, millionths}
 use Rattle.format.specs.Tokens.{tokens, nameOf, valueOf}
 use Rattle.format.specs.declared.settings.Span.{Span}
@@ -42,7 +42,7 @@ openingSettings =
       position = record { position = Position.Auto; align = PositionAlign.Auto };
       size = 100_000_000;
       align = Align.Center;
-      region = nowhere;
+      region = emptyPart;
     }
 
 -- settings, and whether a number that the W3C steps would have stored was above its limit. Such a number is not kept: the file is refused.
@@ -75,21 +75,21 @@ setVertical d c =
       position = c .position;
       size = c .size;
       align = c .align;
-      region = cond (isHorizontal d) (c .region) nowhere;
+      region = cond (isHorizontal d) (c .region) emptyPart;
     }
 
 -- `line:x`: a line clears the region
 unfoldable pub setLine : LinePlace → CueSettings → CueSettings
 setLine l c =
-    record { vertical = c .vertical; line = l; position = c .position; size = c .size; align = c .align; region = nowhere }
+    record { vertical = c .vertical; line = l; position = c .position; size = c .size; align = c .align; region = emptyPart }
 
--- the alignment behind a comma; the one that is set where there is no comma, and none where it is not one of those named
+-- the alignment after a comma; the one that is set where there is no comma, and none where it is not one of those named
 unfoldable pub lineAlign : List ℕ → LineAlign → Option LineAlign
 lineAlign x a =
     cond (not (has comma x)) (some a)
-    (cond (same (behindFirst comma x) (ascii "start")) (some LineAlign.Start)
-    (cond (same (behindFirst comma x) (ascii "center")) (some LineAlign.Center)
-    (cond (same (behindFirst comma x) (ascii "end")) (some LineAlign.End) none)))
+    (cond (same (afterFirst comma x) (ascii "start")) (some LineAlign.Start)
+    (cond (same (afterFirst comma x) (ascii "center")) (some LineAlign.Center)
+    (cond (same (afterFirst comma x) (ascii "end")) (some LineAlign.End) none)))
 
 -- a percentage, which does not snap to lines
 unfoldable pub linePercentage : Option ℕ → Option LineAlign → CueSettings → Taken
@@ -119,17 +119,17 @@ setPosition p c =
 unfoldable pub positionAlign : List ℕ → PositionAlign → Option PositionAlign
 positionAlign x a =
     cond (not (has comma x)) (some a)
-    (cond (same (behindFirst comma x) (ascii "line-left")) (some PositionAlign.LineLeft)
-    (cond (same (behindFirst comma x) (ascii "center")) (some PositionAlign.Center)
-    (cond (same (behindFirst comma x) (ascii "line-right")) (some PositionAlign.LineRight) none)))
+    (cond (same (afterFirst comma x) (ascii "line-left")) (some PositionAlign.LineLeft)
+    (cond (same (afterFirst comma x) (ascii "center")) (some PositionAlign.Center)
+    (cond (same (afterFirst comma x) (ascii "line-right")) (some PositionAlign.LineRight) none)))
 
-unfoldable pub positionOf : Option ℕ → Option PositionAlign → CueSettings → CueSettings
-positionOf none a c = c
-positionOf (some n) none c = c
-positionOf (some n) (some a) c = setPosition (record { position = Position.At n; align = a }) c
+unfoldable pub positionGiven : Option ℕ → Option PositionAlign → CueSettings → CueSettings
+positionGiven none a c = c
+positionGiven (some n) none c = c
+positionGiven (some n) (some a) c = setPosition (record { position = Position.At n; align = a }) c
 
 unfoldable pub positionSetting : List ℕ → CueSettings → CueSettings
-positionSetting x c = positionOf (percentage (beforeFirst comma x)) (positionAlign x (c .position .align)) c
+positionSetting x c = positionGiven (percentage (beforeFirst comma x)) (positionAlign x (c .position .align)) c
 
 -- `size:x`: a size other than 100 clears the region
 unfoldable pub setSize : ℕ → CueSettings → CueSettings
@@ -140,7 +140,7 @@ setSize n c =
       position = c .position;
       size = n;
       align = c .align;
-      region = cond (eqb n 100_000_000) (c .region) nowhere;
+      region = cond (eqb n 100_000_000) (c .region) emptyPart;
     }
 
 unfoldable pub sizeOf : Option ℕ → CueSettings → CueSettings

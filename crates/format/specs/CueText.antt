@@ -110,14 +110,14 @@ parted one [] = []
 parted one (b ∷ s) = one ∷ b ∷ s
 
 unfoldable pub collapsing : (ℕ → Bool) → ℕ → Bool → ℕ → List ℕ → List ℕ
-collapsing such one inside b s = cond (such b) (cond inside (parted one s) s) (b ∷ s)
+collapsing separates one inside b s = cond (separates b) (cond inside (parted one s) s) (b ∷ s)
 
 unfoldable pub collapsedFrom : (ℕ → Bool) → ℕ → Bool → List ℕ → List ℕ
-collapsedFrom such one inside [] = []
-collapsedFrom such one inside (b ∷ s) = collapsing such one inside b (collapsedFrom such one (not (such b)) s)
+collapsedFrom separates one inside [] = []
+collapsedFrom separates one inside (b ∷ s) = collapsing separates one inside b (collapsedFrom separates one (not (separates b)) s)
 
 unfoldable pub collapsed : (ℕ → Bool) → ℕ → List ℕ → List ℕ
-collapsed such one s = collapsedFrom such one false s
+collapsed separates one s = collapsedFrom separates one false s
 
 -- Start tag annotation state; a reference in an annotation is not read
 abbrev pub annotationEnd : List ℕ → List (List ℕ) → List ℕ → Token
@@ -174,20 +174,20 @@ returned (goOn st) = []
 returned (passing t) = t ∷ []
 returned (before t) = t ∷ []
 
--- the state behind a character. Where a visit returns a token before the character, the next token's first visit is to the same character,
+-- the state after a character. Where a visit returns a token before the character, the next token's first visit is to the same character,
 -- and leads to the state `again`; so a character has one visit, or these two
-unfoldable pub behindVisit : Visit → State → State
-behindVisit (goOn st) again = st
-behindVisit (passing t) again = begun
-behindVisit (before t) again = again
+unfoldable pub afterVisit : Visit → State → State
+afterVisit (goOn st) again = st
+afterVisit (passing t) again = begun
+afterVisit (before t) again = again
 
-unfoldable pub behindCharacter : State → ℕ → State
-behindCharacter st c = behindVisit (visit st c) (behindVisit (visit begun c) begun)
+unfoldable pub afterCharacter : State → ℕ → State
+afterCharacter st c = afterVisit (visit st c) (afterVisit (visit begun c) begun)
 
 -- 5, and the rules' own 7 and 8: the tokens of a cue text, one tokenizer after the other
 unfoldable pub cueTokensFrom : State → List ℕ → List Token
 cueTokensFrom st [] = visitEnd st
-cueTokensFrom st (c ∷ s) = returned (visit st c) ++ cueTokensFrom (behindCharacter st c) s
+cueTokensFrom st (c ∷ s) = returned (visit st c) ++ cueTokensFrom (afterCharacter st c) s
 
 unfoldable pub cueTokens : List ℕ → List Token
 cueTokens s = cueTokensFrom begun s

@@ -19,11 +19,11 @@ split [] = [] ∷ []
 split (b ∷ s) = before b (split s)
 
 -- each line after an LF
-unfoldable pub endedLines : List (List ℕ) → List ℕ
-endedLines [] = []
-endedLines (l ∷ ls) = lf ∷ (l ++ endedLines ls)
+unfoldable pub afterLineEnds : List (List ℕ) → List ℕ
+afterLineEnds [] = []
+afterLineEnds (l ∷ ls) = lf ∷ (l ++ afterLineEnds ls)
 
 -- the text that has these lines
 unfoldable pub join : List (List ℕ) → List ℕ
 join [] = []
-join (l ∷ ls) = l ++ endedLines ls
+join (l ∷ ls) = l ++ afterLineEnds ls

@@ -6,7 +6,7 @@ use mathlib.Core.List.{List, [], _∷_}
 use mathlib.Core.Option.{Option, none, some}
 use lib.ListN.{length, drop}
 use Rattle.format.specs.Bytes.{ascii, white}
-use Rattle.format.specs.Texts.{startsWith, all, Part, nowhere}
+use Rattle.format.specs.Texts.{startsWith, all, Part, emptyPart}
 use Rattle.format.specs.CueSettings.{CueSettings}
 use Rattle.format.specs.RegionSettings.{RegionValues, TakenRegion, regionSettings}
 use Rattle.format.specs.TimingLines.{Timing, timingLine}
@@ -26,7 +26,7 @@ pub data Item : Type 0 where
   style : (text : Part) → Item
   region : (r : RegionValues) (over : Bool) → Item
 
--- 11.4.1.3, 11.4.1.4: the cue of a timing line with its identifier and the lines behind it; "if the timing line fails, the block gives no cue"
+-- 11.4.1.3, 11.4.1.4: the cue of a timing line with its identifier and the lines after it; "if the timing line fails, the block gives no cue"
 unfoldable pub cueOf : Part → List Line → Option Timing → Item
 cueOf id ls none = nothing
 cueOf id ls (some t) =
@@ -55,11 +55,11 @@ definition seen first ls =
 -- a block, given whether a cue has succeeded before it
 unfoldable pub meaning : Bool → List Line → Item
 meaning seen [] = nothing
-meaning seen (first ∷ []) = cond (holdsArrow (first .bytes)) (cueOf nowhere [] (timingLine (linePart first))) nothing
+meaning seen (first ∷ []) = cond (holdsArrow (first .bytes)) (cueOf emptyPart [] (timingLine (linePart first))) nothing
 meaning seen (first ∷ (second ∷ ls)) =
     cond
     (holdsArrow (first .bytes))
-    (cueOf nowhere (second ∷ ls) (timingLine (linePart first)))
+    (cueOf emptyPart (second ∷ ls) (timingLine (linePart first)))
     (cond (holdsArrow (second .bytes)) (cueOf (linePart first) ls (timingLine (linePart second))) (definition seen first (second ∷ ls)))
 
 unfoldable pub isCue : Item → Bool

@@ -21,7 +21,7 @@ number ds = numberFrom 0 ds
 unfoldable pub someDigits : List ℕ → Bool
 someDigits s = not (isEmpty s) && all digit s
 
--- a decimal: its digits before the full stop and behind it
+-- a decimal: its digits before the full stop and after it
 pub record Decimal : Type 0 where
   pub whole : List ℕ
   pub fraction : List ℕ

@@ -6,7 +6,7 @@ use mathlib.Core.Option.{Option, none, some}
 use lib.Dec.{ltb}
 use Rattle.format.specs.Bytes.{ascii, comma}
 use Rattle.format.specs.Limits.{maxLine}
-use Rattle.format.specs.Texts.{Part, nowhere, isEmpty, same, beforeFirst, behindFirst, has}
+use Rattle.format.specs.Texts.{Part, emptyPart, isEmpty, same, beforeFirst, afterFirst, has}
 use Rattle.format.specs.Numbers.{percentage, lineCount}
 use Rattle.format.specs.Tokens.{tokens, nameOf, valueOf}
 use Rattle.format.specs.CueSettings.{spanIs}
@@ -30,7 +30,7 @@ up = Scroll.Up
 abbrev pub openingRegion : RegionValues
 openingRegion =
     record {
-      id = nowhere;
+      id = emptyPart;
       width = 100_000_000;
       lines = 3;
       anchor = record { x = 0; y = 100_000_000 };
@@ -70,7 +70,7 @@ pointOf (some x) none = none
 pointOf (some x) (some y) = some (record { x = x; y = y })
 
 unfoldable pub point : List ℕ → Option Point
-point x = cond (has comma x) (pointOf (percentage (beforeFirst comma x)) (percentage (behindFirst comma x))) none
+point x = cond (has comma x) (pointOf (percentage (beforeFirst comma x)) (percentage (afterFirst comma x))) none
 
 -- `regionanchor:x`
 unfoldable pub setAnchor : Option Point → RegionValues → RegionValues

@@ -142,7 +142,7 @@ regionNames s = ids (lists s .regions)
 unfoldable pub newForm : List ℕ → List ℕ → List ℕ → List ℕ
 newForm s t w = join (cueLines (contents (lists s) .regions) (cueAsked t w (regionNames s)))
 
--- the new file: the bytes before the cue's own, the written form in their place, and those behind them
+-- the new file: the bytes before the cue's own, the written form in their place, and those after them
 unfoldable pub newFile : List ℕ → ℕ → List ℕ → List ℕ → List ℕ
 newFile raw number t w =
     take (ownStart raw number) raw ++ newForm (plainText raw) t w ++ drop (ownEnd raw number) raw
@@ -171,7 +171,7 @@ unfoldable pub unlessTest : Option ℕ → ℕ → Answer → Answer
 unlessTest none number answer = answer
 unlessTest (some test) number answer = refused 8 (2 ∷ number ∷ test ∷ [])
 
--- what replacing answers, behind converting: the checks 4, 5, 7, 8, 9, 1 (output), 10 in this order, else the new file's length
+-- what replacing answers, after converting: the checks 4, 5, 7, 8, 9, 1 (output), 10 in this order, else the new file's length
 unfoldable pub replacingText : List ℕ → ℕ → List ℕ → List ℕ → ℕ → Answer
 replacingText raw number t w out =
     cond (not (hasSignature (plainText raw))) (refused 4 [])

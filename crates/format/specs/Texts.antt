@@ -38,7 +38,7 @@ unfoldable pub all : (ℕ → Bool) → List ℕ → Bool
 all p [] = true
 all p (b ∷ s) = p b && all p s
 
--- the bytes at the text's start that pass a test, and the text behind them
+-- the bytes at the text's start that pass a test, and the text after them
 unfoldable pub run : (ℕ → Bool) → List ℕ → List ℕ
 run p [] = []
 run p (b ∷ s) = cond (p b) (b ∷ run p s) []
@@ -47,13 +47,13 @@ unfoldable pub pastRun : (ℕ → Bool) → List ℕ → List ℕ
 pastRun p [] = []
 pastRun p (b ∷ s) = cond (p b) (pastRun p s) (b ∷ s)
 
--- what stands before the first c, all of the text where there is none, and what stands behind it
+-- what stands before the first c, all of the text where there is none, and what stands after it
 unfoldable pub beforeFirst : ℕ → List ℕ → List ℕ
 beforeFirst c s = run (λ b. not (eqb b c)) s
 
-unfoldable pub behindFirst : ℕ → List ℕ → List ℕ
-behindFirst c [] = []
-behindFirst c (b ∷ s) = cond (eqb b c) s (behindFirst c s)
+unfoldable pub afterFirst : ℕ → List ℕ → List ℕ
+afterFirst c [] = []
+afterFirst c (b ∷ s) = cond (eqb b c) s (afterFirst c s)
 
 unfoldable pub has : ℕ → List ℕ → Bool
 has c s = not (all (λ b. not (eqb b c)) s)
@@ -67,6 +67,6 @@ pub record Part : Type 0 where
   pub place : ℕ
   pub bytes : List ℕ
 
--- the part that stands nowhere and has no bytes
-abbrev pub nowhere : Part
-nowhere = record { place = 0; bytes = [] }
+-- the part that stands emptyPart and has no bytes
+abbrev pub emptyPart : Part
+emptyPart = record { place = 0; bytes = [] }

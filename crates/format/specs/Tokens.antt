@@ -4,7 +4,7 @@ use mathlib.Core.Bool.{Bool, false, cond, not}
 use mathlib.Core.List.{List, [], _∷_}
 use lib.ListN.{length}
 use Rattle.format.specs.Bytes.{white, colon}
-use Rattle.format.specs.Texts.{Part, beforeFirst, behindFirst}
+use Rattle.format.specs.Texts.{Part, beforeFirst, afterFirst}
 
 -- does the text begin with a byte of a token
 unfoldable pub inToken : List ℕ → Bool
@@ -26,9 +26,9 @@ unfoldable pub tokens : ℕ → List ℕ → List Part
 tokens p [] = []
 tokens p (b ∷ s) = beforeTokens p b s (tokens (suc p) s)
 
--- what stands before a token's first colon and behind it
+-- what stands before a token's first colon and after it
 unfoldable pub nameOf : Part → List ℕ
 nameOf t = beforeFirst colon (t .bytes)
 
 unfoldable pub valueOf : Part → Part
-valueOf t = record { place = t .place + suc (length (nameOf t)); bytes = behindFirst colon (t .bytes) }
+valueOf t = record { place = t .place + suc (length (nameOf t)); bytes = afterFirst colon (t .bytes) }

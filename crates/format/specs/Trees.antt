@@ -89,13 +89,13 @@ classString [] = []
 classString (c ∷ cs) = cond (isEmpty c) (classString cs) (c ++ parted fullStop (classString cs))
 
 -- "A timestamp tag must be a time and nothing else."
-unfoldable pub nothingBehind : Result Time → Option Time
-nothingBehind failed = none
-nothingBehind (got t []) = some t
-nothingBehind (got t (b ∷ s)) = none
+unfoldable pub nothingAfter : Result Time → Option Time
+nothingAfter failed = none
+nothingAfter (got t []) = some t
+nothingAfter (got t (b ∷ s)) = none
 
 unfoldable pub tagTime : List ℕ → Option Time
-tagTime value = nothingBehind (Times.timestamp value)
+tagTime value = nothingAfter (Times.timestamp value)
 
 -- the value of a node that a start tag attaches: a voice and a language have the annotation, the others none
 unfoldable pub valueFor : NodeKind → List ℕ → List ℕ
@@ -117,21 +117,21 @@ made path (startTag name classes annotation) = element (parentOf path) (classStr
 made path (endTag name) = []
 made path (timestampTag value) = stamped (parentOf path) (tagTime value)
 
--- the nodes that are open behind a token, the node that it gives having this index: "let current be the newly created node object"
+-- the nodes that are open after a token, the node that it gives having this index: "let current be the newly created node object"
 unfoldable pub entering : ℕ → Option NodeKind → List Open → List Open
 entering index none path = path
 entering index (some k) path = record { index = index; kind = k } ∷ path
 
-unfoldable pub pathBehind : List Open → ℕ → Token → List Open
-pathBehind path index (stringToken value) = path
-pathBehind path index (startTag name classes annotation) = entering index (attached (kindOf path) name) path
-pathBehind path index (endTag name) = leaving (kindNamed name) path
-pathBehind path index (timestampTag value) = path
+unfoldable pub pathAfter : List Open → ℕ → Token → List Open
+pathAfter path index (stringToken value) = path
+pathAfter path index (startTag name classes annotation) = entering index (attached (kindOf path) name) path
+pathAfter path index (endTag name) = leaving (kindNamed name) path
+pathAfter path index (timestampTag value) = path
 
 -- 7 to 10: the nodes of tokens, the first having this index
 unfoldable pub nodesFrom : List Open → ℕ → List Token → List Node
 nodesFrom path index [] = []
-nodesFrom path index (t ∷ ts) = made path t ++ nodesFrom (pathBehind path index t) (index + length (made path t)) ts
+nodesFrom path index (t ∷ ts) = made path t ++ nodesFrom (pathAfter path index t) (index + length (made path t)) ts
 
 -- the nodes of a cue text
 unfoldable pub nodes : List ℕ → List Node

@@ -33,7 +33,7 @@ unfoldable pub firstIn : ℕ → (List ℕ → Option ℕ) → ℕ → List (Lis
 firstIn list fails i [] = none
 firstIn list fails i (w ∷ ws) = orElse (fails w) list i (firstIn list fails (i + 1) ws)
 
--- refusal 8 with these values, or what comes behind it
+-- refusal 8 with these values, or what comes after it
 unfoldable pub unlessFailing : Option (List ℕ) → Answer → Answer
 unlessFailing none answer = answer
 unlessFailing (some vs) answer = refused 8 vs

@@ -1,4 +1,4 @@
--- Laws of the written forms: lines one behind another, a setting on a line of its own, a cue among its regions, and a region.
+-- Laws of the written forms: lines one after another, a setting on a line of its own, a cue among its regions, and a region.
 use Prim.Native.Nat.{ℕ}
 use mathlib.Core.Path.{_≡_, refl, sym, ap, _∙_}
 use mathlib.Core.Bool.{cond}
@@ -8,7 +8,7 @@ use lib.ListN.{getD}
 use Rattle.format.specs.Contents.{optionOf, cueOfEntry, regionOfEntry, regionOfRow}
 use Rattle.format.specs.Bytes.{ascii, lf, colon}
 use Rattle.format.specs.Texts.{isEmpty, bytesAt}
-use Rattle.format.specs.Lines.{split, endedLines, join}
+use Rattle.format.specs.Lines.{split, afterLineEnds, join}
 use Rattle.format.specs.Writable.{namesOf}
 use Rattle.format.specs.Written.{setting, writtenRegionName, writtenSettings, writtenTiming, linesOf, cueLines, writtenId, regionLines}
 use Rattle.format.specs.declared.regions.Region.{Region}
@@ -21,26 +21,26 @@ use Rattle.roundtrip.proofs.Cues.{names-of}
 use Rattle.setting_forms.specs.Settings.{namedRegion, settingsForm}
 use Rattle.forms.specs.Forms.{timingForm, cueForm, numberLines}
 
--- the lines of a text, and lines behind them
-pub ended-split : (s : List ℕ) → endedLines (split s) ≡ lf ∷ s
-unfolding endedLines join
-ended-split s = let t = splits s in ap endedLines (t .is) ∙ ap (λ r. lf ∷ r) (t .joined)
+-- the lines of a text, and lines after them
+pub ended-split : (s : List ℕ) → afterLineEnds (split s) ≡ lf ∷ s
+unfolding afterLineEnds join
+ended-split s = let t = splits s in ap afterLineEnds (t .is) ∙ ap (λ r. lf ∷ r) (t .joined)
 
-join-split : (s : List ℕ) (ls : List (List ℕ)) → join (split s ++ ls) ≡ s ++ endedLines ls
+join-split : (s : List ℕ) (ls : List (List ℕ)) → join (split s ++ ls) ≡ s ++ afterLineEnds ls
 unfolding join
 join-split s ls =
     let t = splits s in
-    rw (t .is, ended-append (t .rest) ls, ← append-assoc (t .first) (endedLines (t .rest)) (endedLines ls), t .joined)
+    rw (t .is, ended-append (t .rest) ls, ← append-assoc (t .first) (afterLineEnds (t .rest)) (afterLineEnds ls), t .joined)
 
 -- a cue's identifier, its timing line and its text
 join-id :
     (id l : List ℕ) (ls : List (List ℕ)) → join (linesOf id ++ l ∷ ls) ≡ cond (isEmpty id) [] (id ++ lf ∷ []) ++ join (l ∷ ls)
-unfolding join endedLines linesOf isEmpty
+unfolding join afterLineEnds linesOf isEmpty
 join-id [] l ls = refl
 join-id (b ∷ id) l ls = join-split (b ∷ id) (l ∷ ls) ∙ sym (append-assoc (b ∷ id) (lf ∷ []) (join (l ∷ ls)))
 
-ended-text : (text : List ℕ) → endedLines (linesOf text) ≡ cond (isEmpty text) [] (lf ∷ text)
-unfolding endedLines linesOf isEmpty
+ended-text : (text : List ℕ) → afterLineEnds (linesOf text) ≡ cond (isEmpty text) [] (lf ∷ text)
+unfolding afterLineEnds linesOf isEmpty
 ended-text [] = refl
 ended-text (b ∷ text) = ended-split (b ∷ text)
 
@@ -65,17 +65,17 @@ module _ (s : List ℕ) (regions : List (List ℕ)) (e : CueEntry) where
   cue-regional i k = rw (k, names-of s regions)
 
 -- a setting on a line of its own
-pub ended-setting : (name value : List ℕ) → endedLines (setting name value) ≡ (lf ∷ (name ++ colon ∷ [])) ++ value
-unfolding endedLines setting
+pub ended-setting : (name value : List ℕ) → afterLineEnds (setting name value) ≡ (lf ∷ (name ++ colon ∷ [])) ++ value
+unfolding afterLineEnds setting
 ended-setting name value = ap (λ r. lf ∷ r) (append-nil (name ++ colon ∷ value) ∙ sym (append-assoc name (colon ∷ []) value))
 
--- a region's lines: its identifier's, and those behind it
-behind-id : (a b c d e f : List (List ℕ)) → endedLines (a ++ b ++ c ++ d ++ e ++ f) ≡ endedLines a ++ endedLines (b ++ c ++ d ++ e ++ f)
-behind-id a b c d e f = simp (ended-append, append-assoc)
+-- a region's lines: its identifier's, and those after it
+after-id : (a b c d e f : List (List ℕ)) → afterLineEnds (a ++ b ++ c ++ d ++ e ++ f) ≡ afterLineEnds a ++ afterLineEnds (b ++ c ++ d ++ e ++ f)
+after-id a b c d e f = simp (ended-append, append-assoc)
 
 pub join-region :
     (s : List ℕ) (r : Region)
     → join (regionLines (regionOfEntry s r))
-    ≡ (ascii "REGION" ++ endedLines (writtenId (bytesAt s (r .id .from) (r .id .to)))) ++ endedLines (numberLines r)
+    ≡ (ascii "REGION" ++ afterLineEnds (writtenId (bytesAt s (r .id .from) (r .id .to)))) ++ afterLineEnds (numberLines r)
 unfolding join regionLines regionOfEntry numberLines
-join-region s r = ap (λ x. ascii "REGION" ++ x) (behind-id _ _ _ _ _ _)
+join-region s r = ap (λ x. ascii "REGION" ++ x) (after-id _ _ _ _ _ _)

@@ -18,7 +18,7 @@ unfoldable pub cueForm : List ℕ → CueEntry → Option (List ℕ) → List �
 cueForm s e name =
     join (linesOf (bytesAt s (e .id .from) (e .id .to)) ++ timingForm e name ∷ linesOf (bytesAt s (e .text .from) (e .text .to)))
 
--- a region's lines behind its identifier
+-- a region's lines after its identifier
 unfoldable pub numberLines : Region → List (List ℕ)
 numberLines r =
     setting (ascii "width") (writtenPercentage (r .width))

@@ -18,7 +18,7 @@ ghost use mathlib.Core.List.{[], _∷_, _++_, map};
 ghost use lib.ListN.{getD};
 ghost use Rattle.format.specs.Bytes.{lf};
 ghost use Rattle.format.specs.Texts.{isEmpty};
-ghost use Rattle.format.specs.Lines.{endedLines, join};
+ghost use Rattle.format.specs.Lines.{afterLineEnds, join};
 ghost use Rattle.format.specs.Rows.{cueEntry};
 ghost use Rattle.format.specs.Contents.{regionOfEntry, cueOfRow, regionOfRow, styleOfRow};
 ghost use Rattle.format.specs.Writable.{namesOf};
@@ -27,7 +27,7 @@ ghost use Rattle.output.specs.Puts.{Puts};
 ghost use Rattle.setting_forms.specs.Settings.{asked};
 ghost use Rattle.forms.specs.Forms.{timingForm, cueForm, numberLines};
 
-// A text and a line end behind it; nothing where it is empty.
+// A text and a line end after it; nothing where it is empty.
 fn line_before(s: &[u8], out: &mut [u8], at: usize) -> usize
     ensures { λ r. ⌜ Puts (cond (isEmpty (now (s .entry))) [] (now (s .entry) ++ lf ∷ [])) at (now (out .entry)) r (now (out .exit)) ⌝ }
 {
@@ -39,7 +39,7 @@ fn line_before(s: &[u8], out: &mut [u8], at: usize) -> usize
 }
 
 // A text and a line end before it; nothing where it is empty.
-fn line_behind(s: &[u8], out: &mut [u8], at: usize) -> usize
+fn line_after(s: &[u8], out: &mut [u8], at: usize) -> usize
     ensures { λ r. ⌜ Puts (cond (isEmpty (now (s .entry))) [] (lf ∷ now (s .entry))) at (now (out .entry)) r (now (out .exit)) ⌝ }
 {
     if s.len() == 0 {
@@ -54,8 +54,8 @@ fn timing_line(row: CueRow, asks: bool, name: &[u8], out: &mut [u8], at: usize) 
 {
     let arrow = time(rows::cues::start(row), out, at);
     let end = bytes(b" --> ", out, arrow);
-    let behind = time(rows::cues::end(row), out, end);
-    setting_forms::settings(row, asks, name, out, behind)
+    let after = time(rows::cues::end(row), out, end);
+    setting_forms::settings(row, asks, name, out, after)
 }
 
 // One cue without a last line end, with the name of the region it asks for, if it asks for one.
@@ -73,7 +73,7 @@ pub fn cue_named(
     let timing = line_before(part(text, id.from, id.to), out, at);
     let end = timing_line(row, asks, name, out, timing);
     let words = rows::cues::text(row);
-    line_behind(part(text, words.from, words.to), out, end)
+    line_after(part(text, words.from, words.to), out, end)
 }
 
 // The identifier of the region with this index; empty where there is none.
@@ -109,7 +109,7 @@ fn point(p: Point, out: &mut [u8], at: usize) -> usize
 }
 
 fn identifier(id: &[u8], out: &mut [u8], at: usize) -> usize
-    ensures { λ r. ⌜ Puts (endedLines (writtenId (now (id .entry)))) at (now (out .entry)) r (now (out .exit)) ⌝ }
+    ensures { λ r. ⌜ Puts (afterLineEnds (writtenId (now (id .entry)))) at (now (out .entry)) r (now (out .exit)) ⌝ }
 {
     if id.len() == 0 {
         return at;
@@ -119,7 +119,7 @@ fn identifier(id: &[u8], out: &mut [u8], at: usize) -> usize
 }
 
 fn scroll(s: Scroll, out: &mut [u8], at: usize) -> usize
-    ensures { λ r. ⌜ Puts (endedLines (writtenScroll s)) at (now (out .entry)) r (now (out .exit)) ⌝ }
+    ensures { λ r. ⌜ Puts (afterLineEnds (writtenScroll s)) at (now (out .entry)) r (now (out .exit)) ⌝ }
 {
     match s {
         Scroll::None => at,
@@ -127,22 +127,22 @@ fn scroll(s: Scroll, out: &mut [u8], at: usize) -> usize
     }
 }
 
-// The lines of a region behind its identifier, each after a line end.
+// The lines of a region after its identifier, each after a line end.
 fn region_numbers(region: Region, out: &mut [u8], at: usize) -> usize
-    ensures { λ r. ⌜ Puts (endedLines (numberLines region)) at (now (out .entry)) r (now (out .exit)) ⌝ }
+    ensures { λ r. ⌜ Puts (afterLineEnds (numberLines region)) at (now (out .entry)) r (now (out .exit)) ⌝ }
 {
     let anchored = region.anchor;
     let seen = region.viewport;
     let scrolls = region.scroll;
     let width = bytes(b"\nwidth:", out, at);
-    let behind_width = percentage(region.width, out, width);
-    let lines = bytes(b"\nlines:", out, behind_width);
-    let behind_lines = number(1, region.lines, out, lines);
-    let anchor = bytes(b"\nregionanchor:", out, behind_lines);
-    let behind_anchor = point(anchored, out, anchor);
-    let viewport = bytes(b"\nviewportanchor:", out, behind_anchor);
-    let behind_viewport = point(seen, out, viewport);
-    scroll(scrolls, out, behind_viewport)
+    let after_width = percentage(region.width, out, width);
+    let lines = bytes(b"\nlines:", out, after_width);
+    let after_lines = number(1, region.lines, out, lines);
+    let anchor = bytes(b"\nregionanchor:", out, after_lines);
+    let after_anchor = point(anchored, out, anchor);
+    let viewport = bytes(b"\nviewportanchor:", out, after_anchor);
+    let after_viewport = point(seen, out, viewport);
+    scroll(scrolls, out, after_viewport)
 }
 
 // One region without a last line end.

@@ -22,14 +22,14 @@ use Rattle.laws.proofs.Tests.{by-test}
 use Rattle.laws.proofs.PlainText.{plainText-length, plainText-plain}
 
 -- an answer that accepts was refused by no test, and by no answer before it
-pub behind-test : (t : Bool) (n : ℕ) (us vs : List ℕ) (a : Answer) → cond t (refused n us) a ≡ accepted vs → (t ≡ false) × (a ≡ accepted vs)
-behind-test true n us vs a e = let z : _≡_ {A = ℕ} 0 1 = cc in absurd (omega arith)
-behind-test false n us vs a e = (refl, e)
+pub after-test : (t : Bool) (n : ℕ) (us vs : List ℕ) (a : Answer) → cond t (refused n us) a ≡ accepted vs → (t ≡ false) × (a ≡ accepted vs)
+after-test true n us vs a e = let z : _≡_ {A = ℕ} 0 1 = cc in absurd (omega arith)
+after-test false n us vs a e = (refl, e)
 
-pub behind-answer : (a b : Answer) (vs : List ℕ) → andThen a b ≡ accepted vs → b ≡ accepted vs
+pub after-answer : (a b : Answer) (vs : List ℕ) → andThen a b ≡ accepted vs → b ≡ accepted vs
 unfolding andThen ifAccepted
-behind-answer (accepted us) b vs e = e
-behind-answer (refused n us) b vs e = let z : _≡_ {A = ℕ} 0 1 = cc in absurd (omega arith)
+after-answer (accepted us) b vs e = e
+after-answer (refused n us) b vs e = let z : _≡_ {A = ℕ} 0 1 = cc in absurd (omega arith)
 
 -- what was placed stands at the start
 module _ {A : Type 0} (x room exit : List A) (n : ℕ) (e : exit ≡ placed x room) (h : n ≡ length x) where
@@ -49,8 +49,8 @@ pub record Made (file : List ℕ) (vs : List ℕ) : Type 0 where
 pub file-made : (file : List ℕ) (room : ℕ) (vs : List ℕ) → fileAnswer file room ≡ accepted vs → Made file vs
 unfolding fileAnswer
 file-made file room vs e =
-    let within = behind-test (ltb maxFile (length file)) 1 [] vs _ e in
-    let last = behind-test (ltb room (length file)) 10 (length file ∷ []) vs _ (within .1) in
+    let within = after-test (ltb maxFile (length file)) 1 [] vs _ e in
+    let last = after-test (ltb room (length file)) 10 (length file ∷ []) vs _ (within .1) in
     record { fits = ltb-false maxFile (length file) (within .0); size = λ n q. cc (last .1, q) }
 
 -- where a raw file was converted, its plain text stands at the room's start
@@ -66,8 +66,8 @@ pub converts :
 unfolding converting convertedRoom ifAccepted
 converts raw before {n} {room} a e =
     let s = plainText raw in
-    let within = behind-test (ltb maxFile (length raw)) 1 [] (n ∷ []) _ (sym a) in
-    let fitting = behind-test (ltb (length before) (length s)) 2 (length s ∷ []) (n ∷ []) _ (within .1) in
+    let within = after-test (ltb maxFile (length raw)) 1 [] (n ∷ []) _ (sym a) in
+    let fitting = after-test (ltb (length before) (length s)) 2 (length s ∷ []) (n ∷ []) _ (within .1) in
     let h : n ≡ length s = cc (fitting .1) in
     let stands : room ≡ placed s before = rw (← a) at e in
     record { fits = reaches s before room n stands h; text = front s before room n stands h }

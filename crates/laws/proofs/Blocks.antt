@@ -5,9 +5,9 @@ use mathlib.Core.List.{List, [], _∷_, _++_, append-assoc}
 use Rattle.format.specs.Blocks.{Line, Collecting, between, stops, collected, ended, next, blocksFrom}
 
 -- where collecting stands after lines
-unfoldable pub behind : Collecting → List Line → Collecting
-behind st [] = st
-behind st (l ∷ ls) = behind (next st l) ls
+unfoldable pub stateAfter : Collecting → List Line → Collecting
+stateAfter st [] = st
+stateAfter st (l ∷ ls) = stateAfter (next st l) ls
 
 -- a line before which collecting stops begins as after an empty line
 pub blocks-stop : (st : Collecting) (l : Line) (ls : List Line) → stops st l ≡ true → blocksFrom st (l ∷ ls) ≡ collected st ++ blocksFrom between (l ∷ ls)
@@ -17,9 +17,9 @@ blocks-stop st l ls e = rw e
 -- a file divides where collecting stops
 pub cut :
     (st : Collecting) (before : List Line) (l : Line) (bs : List Line)
-    → stops (behind st before) l ≡ true
+    → stops (stateAfter st before) l ≡ true
     → blocksFrom st (before ++ l ∷ bs) ≡ blocksFrom st before ++ blocksFrom between (l ∷ bs)
-unfolding blocksFrom behind
+unfolding blocksFrom stateAfter
 cut st [] l bs e = blocks-stop st l bs e
 cut st (a ∷ before) l bs e =
     ap (λ r. ended st a ++ r) (cut (next st a) before l bs e) ∙ sym (append-assoc (ended st a) (blocksFrom (next st a) before) (blocksFrom between (l ∷ bs)))

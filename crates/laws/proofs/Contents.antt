@@ -8,11 +8,11 @@ use lib.Dec.{eqb, ltb}
 use lib.ListN.{length}
 use Rattle.format.specs.Bytes.{ascii, white, percent, comma}
 use Rattle.format.specs.Limits.{maxLine}
-use Rattle.format.specs.Texts.{Part, nowhere, isEmpty, same, endsWith, beforeFirst}
+use Rattle.format.specs.Texts.{Part, emptyPart, isEmpty, same, endsWith, beforeFirst}
 use Rattle.format.specs.Numbers.{percentage, LineNumber, lineNumber, overLine, lineCount}
 use Rattle.format.specs.Tokens.{inToken, onToken, beforeTokens, tokens, nameOf, valueOf}
 use Rattle.format.specs.CueSettings.{CueSettings, Taken, taken, openingSettings, setRegion, direction, setVertical, setLine, lineAlign}
-use Rattle.format.specs.CueSettings.{linePercentage, lineCounted, lineSetting, setPosition, positionAlign, positionOf, positionSetting}
+use Rattle.format.specs.CueSettings.{linePercentage, lineCounted, lineSetting, setPosition, positionAlign, positionGiven, positionSetting}
 use Rattle.format.specs.CueSettings.{setSize, sizeOf, setAlign, alignment, named, cueSetting, settingsFrom, cueSettings, isHorizontal}
 use Rattle.format.specs.RegionSettings.{RegionValues, TakenRegion, takenRegion, openingRegion, setId, setWidth, setLines, point, setAnchor}
 use Rattle.format.specs.RegionSettings.{setViewport, setScroll, namedRegion, regionSetting, regionFrom, regionSettings}
@@ -93,8 +93,8 @@ module _ (c : CueSettings) where
   line-counted (some n) none = refl
   line-counted (some n) (some a) = alike bareTaken (overLine n) refl refl
 
-  position-of : (n : Option ℕ) (a : Option PositionAlign) → bareSettings (positionOf n a c) ≡ bareSettings (positionOf n a (bareSettings c))
-  unfolding positionOf setPosition setRegion
+  position-of : (n : Option ℕ) (a : Option PositionAlign) → bareSettings (positionGiven n a c) ≡ bareSettings (positionGiven n a (bareSettings c))
+  unfolding positionGiven setPosition setRegion
   position-of none a = refl
   position-of (some n) none = refl
   position-of (some n) (some a) = refl
@@ -134,7 +134,7 @@ module _ (c : CueSettings) where
       (alike bareTaken (same name (ascii "line"))
       (alike bareTaken (endsWith percent n) (line-percentage (percentage n) a) (line-counted (lineNumber n) a))
       (alike bareTaken (same name (ascii "position"))
-      (alike-settings (positionOf (percentage n) at c) (positionOf (percentage n) at b) (position-of (percentage n) at))
+      (alike-settings (positionGiven (percentage n) at c) (positionGiven (percentage n) at b) (position-of (percentage n) at))
       (alike bareTaken (same name (ascii "size"))
       (alike-settings (sizeOf (percentage x) c) (sizeOf (percentage x) b) (size-of (percentage x)))
       (alike bareTaken (same name (ascii "align")) (alike-settings (setAlign al c) (setAlign al b) (set-align al)) unset)))))
@@ -295,10 +295,10 @@ style-of p q e = ap (λ x. style (record { place = 0; bytes = x })) e
 meaning-bare : (seen : Bool) (b : List Line) → bareItem (meaning seen (unplaced b)) ≡ bareItem (meaning seen b)
 unfolding meaning timingLine definition
 meaning-bare seen [] = refl
-meaning-bare seen (first ∷ []) = alike bareItem (holdsArrow (first .bytes)) (cue-of nowhere (linePart first) [] (timings (first .bytes))) refl
+meaning-bare seen (first ∷ []) = alike bareItem (holdsArrow (first .bytes)) (cue-of emptyPart (linePart first) [] (timings (first .bytes))) refl
 meaning-bare seen (first ∷ (second ∷ ls)) =
     let ls₂ = second ∷ ls in
-    alike bareItem (holdsArrow (first .bytes)) (cue-of nowhere (linePart first) ls₂ (timings (first .bytes)))
+    alike bareItem (holdsArrow (first .bytes)) (cue-of emptyPart (linePart first) ls₂ (timings (first .bytes)))
     (alike bareItem (holdsArrow (second .bytes)) (cue-of (linePart first) (linePart second) ls (timings (second .bytes)))
     (alike bareItem seen refl
     (alike bareItem (isWord (ascii "STYLE") (first .bytes)) (style-of (joined (unplaced ls₂)) (joined ls₂) (joined-unplaced ls₂))

@@ -27,7 +27,7 @@ module _ {ℓ} {A : Type ℓ} (whole room : List A) where
           cc,
         )
 
-    -- a piece of the whole is stored behind what is there
+    -- a piece of the whole is stored after what is there
     pub filled-sets :
         (o : List A) (n : ℕ) (r : List A)
         → drop n whole ≡ o ++ r

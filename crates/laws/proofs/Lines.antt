@@ -8,7 +8,7 @@ use lib.Dec.{eqb}
 use borrow.Author.Tests.{eqb-true, not-true}
 use Rattle.format.specs.Bytes.{lf}
 use Rattle.format.specs.Plain.{dropBom, newlines, repair, toPlain, plainText}
-use Rattle.format.specs.Lines.{onFirst, before, split, endedLines, join}
+use Rattle.format.specs.Lines.{onFirst, before, split, afterLineEnds, join}
 use Rattle.laws.proofs.Tests.{and-left, and-right, by-test, absent}
 use Rattle.laws.proofs.Repair.{repair-line, repair-absent}
 
@@ -32,10 +32,10 @@ split-last (b ∷ l) a =
 
 -- lines joined are split into the same lines
 pub split-join : (l : List ℕ) (ls : List (List ℕ)) → unbroken (l ∷ ls) ≡ true → split (join (l ∷ ls)) ≡ l ∷ ls
-unfolding join endedLines unbroken
+unfolding join afterLineEnds unbroken
 split-join l [] a = rw (append-nil l) (split-last l (and-left (absent lf l) true a))
 split-join l (m ∷ ms) a =
-    split-line l (m ++ endedLines ms) (and-left (absent lf l) (unbroken (m ∷ ms)) a)
+    split-line l (m ++ afterLineEnds ms) (and-left (absent lf l) (unbroken (m ∷ ms)) a)
     ∙ ap (λ r. l ∷ r) (split-join m ms (and-right (absent lf l) (unbroken (m ∷ ms)) a))
 
 -- a text's first line and the others
@@ -47,7 +47,7 @@ pub record Split (s : List ℕ) : Type 0 where
   pub whole : unbroken (first ∷ rest) ≡ true
 
 pub splits : (s : List ℕ) → Split s
-unfolding split before join endedLines unbroken absent onFirst
+unfolding split before join afterLineEnds unbroken absent onFirst
 splits [] = record { first = []; rest = []; is = refl; joined = refl; whole = refl }
 splits (b ∷ s) =
     let t = splits s in
@@ -68,12 +68,12 @@ splits (b ∷ s) =
     })
 
 repair-lines : (l : List ℕ) (ls : List (List ℕ)) → unbroken (l ∷ ls) ≡ true → split (repair (join (l ∷ ls))) ≡ map repair (l ∷ ls)
-unfolding join endedLines unbroken
+unfolding join afterLineEnds unbroken
 repair-lines l [] a =
     rw (append-nil l) (split-last (repair l) (repair-absent lf 0 l (omega arith) (and-left (absent lf l) true a)))
 repair-lines l (m ∷ ms) a =
-    ap split (repair-line l (m ++ endedLines ms))
-    ∙ split-line (repair l) (repair (m ++ endedLines ms)) (repair-absent lf 0 l (omega arith) (and-left (absent lf l) (unbroken (m ∷ ms)) a))
+    ap split (repair-line l (m ++ afterLineEnds ms))
+    ∙ split-line (repair l) (repair (m ++ afterLineEnds ms)) (repair-absent lf 0 l (omega arith) (and-left (absent lf l) (unbroken (m ∷ ms)) a))
     ∙ ap (λ r. repair l ∷ r) (repair-lines m ms (and-right (absent lf l) (unbroken (m ∷ ms)) a))
 
 pub split-repair : (s : List ℕ) → split (repair s) ≡ map repair (split s)

@@ -3,7 +3,7 @@ use mathlib.Core.Path.{_≡_, refl, ap, _∙_}
 use mathlib.Core.Bool.{Bool, true, false, cond, _||_, true≢false}
 use mathlib.Core.List.{List, [], _∷_, _++_}
 use mathlib.Core.Option.{Option, none, some}
-use Rattle.format.specs.Texts.{Part, nowhere}
+use Rattle.format.specs.Texts.{Part, emptyPart}
 use Rattle.format.specs.TimingLines.{Timing, timingLine}
 use Rattle.format.specs.Blocks.{Line, linePart, holdsArrow}
 use Rattle.format.specs.Lists.{Item, nothing, cue, style, region, cueOf, definition, meaning, isCue, itemsFrom, Lists, into, listed}
@@ -36,19 +36,19 @@ either-none true a b p q = p
 either-none false a b p q = q
 
 -- once a cue has succeeded, no block is a style or a region
-pub no-definition-behind : (b : List Line) → isDefinition (meaning true b) ≡ false
+pub no-definition-after : (b : List Line) → isDefinition (meaning true b) ≡ false
 unfolding meaning definition isDefinition
-no-definition-behind [] = refl
-no-definition-behind (first ∷ []) =
-    either-none (holdsArrow (first .bytes)) (cueOf nowhere [] (timingLine (linePart first))) nothing (cue-defines-none nowhere [] (timingLine (linePart first))) refl
-no-definition-behind (first ∷ (second ∷ ls)) =
+no-definition-after [] = refl
+no-definition-after (first ∷ []) =
+    either-none (holdsArrow (first .bytes)) (cueOf emptyPart [] (timingLine (linePart first))) nothing (cue-defines-none emptyPart [] (timingLine (linePart first))) refl
+no-definition-after (first ∷ (second ∷ ls)) =
     let timed = cueOf (linePart first) ls (timingLine (linePart second)) in
     let rest = cond (holdsArrow (second .bytes)) timed nothing in
     either-none
     (holdsArrow (first .bytes))
-    (cueOf nowhere (second ∷ ls) (timingLine (linePart first)))
+    (cueOf emptyPart (second ∷ ls) (timingLine (linePart first)))
     rest
-    (cue-defines-none nowhere (second ∷ ls) (timingLine (linePart first)))
+    (cue-defines-none emptyPart (second ∷ ls) (timingLine (linePart first)))
     (either-none (holdsArrow (second .bytes)) timed nothing (cue-defines-none (linePart first) ls (timingLine (linePart second))) refl)
 
 no-region : (i : Item) (l : Lists) → isDefinition i ≡ false → into i l .regions ≡ l .regions
@@ -59,8 +59,8 @@ no-region (style text) l e = absurd (true≢false e)
 no-region (region r over) l e = absurd (true≢false e)
 
 -- regions never come after a cue
-pub no-regions-behind : (bs : List (List Line)) → listed (itemsFrom true bs) .regions ≡ []
+pub no-regions-after : (bs : List (List Line)) → listed (itemsFrom true bs) .regions ≡ []
 unfolding itemsFrom listed
-no-regions-behind [] = refl
-no-regions-behind (b ∷ bs) =
-    no-region (meaning true b) (listed (itemsFrom true bs)) (no-definition-behind b) ∙ no-regions-behind bs
+no-regions-after [] = refl
+no-regions-after (b ∷ bs) =
+    no-region (meaning true b) (listed (itemsFrom true bs)) (no-definition-after b) ∙ no-regions-after bs

@@ -28,18 +28,18 @@ unfolding piece startsWith kept
 piece-whole b s n z q = rw (ne-eqb b nul z, q)
 
 -- the three kinds of pieces
-pub data Kind (b : ℕ) (s : List ℕ) : Type 0 where
-  zeroByte : b ≡ nul → piece (b ∷ s) ≡ record { more = 0; out = replacement } → Kind b s
-  broken : (b ≡ nul → ⊥) → sequence (b ∷ s) ≡ 0 → piece (b ∷ s) ≡ illFormed (b ∷ s) → Kind b s
-  whole : (n : ℕ) → (b ≡ nul → ⊥) → sequence (b ∷ s) ≡ suc n → piece (b ∷ s) ≡ record { more = n; out = b ∷ take n s } → Kind b s
+pub data PieceKind (b : ℕ) (s : List ℕ) : Type 0 where
+  zeroByte : b ≡ nul → piece (b ∷ s) ≡ record { more = 0; out = replacement } → PieceKind b s
+  broken : (b ≡ nul → ⊥) → sequence (b ∷ s) ≡ 0 → piece (b ∷ s) ≡ illFormed (b ∷ s) → PieceKind b s
+  whole : (n : ℕ) → (b ≡ nul → ⊥) → sequence (b ∷ s) ≡ suc n → piece (b ∷ s) ≡ record { more = n; out = b ∷ take n s } → PieceKind b s
 
-pub kind : (b : ℕ) (s : List ℕ) → Kind b s
+pub kind : (b : ℕ) (s : List ℕ) → PieceKind b s
 kind b s =
     by-test (eqb b nul)
     (λ y. zeroByte (eqb-true b nul y) (piece-nul b s (eqb-true b nul y)))
     (λ n. go n (sequence (b ∷ s)) refl)
   where
-    go : eqb b nul ≡ false → (k : ℕ) → sequence (b ∷ s) ≡ k → Kind b s
+    go : eqb b nul ≡ false → (k : ℕ) → sequence (b ∷ s) ≡ k → PieceKind b s
     go n zero e = broken (eqb-false b nul n) e (piece-broken b s (eqb-false b nul n) e)
     go n (suc k) e = whole k (eqb-false b nul n) e (piece-whole b s k (eqb-false b nul n) e)
 

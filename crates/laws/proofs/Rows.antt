@@ -10,11 +10,11 @@ use lib.ListN.{length, take, drop, length-append}
 use borrow.Author.Tests.{lt-ltb, ltb-true, ne-eqb}
 use Rattle.format.specs.Limits.{maxText}
 use Rattle.format.specs.Bytes.{lf}
-use Rattle.format.specs.Texts.{Part, nowhere, isEmpty, bytesAt}
+use Rattle.format.specs.Texts.{Part, emptyPart, isEmpty, bytesAt}
 use Rattle.format.specs.Lines.{split, before, onFirst}
 use Rattle.format.specs.CueSettings.{spanIs}
 use Rattle.format.specs.RegionSettings.{RegionValues, lastNamed, regionIs}
-use Rattle.format.specs.Blocks.{Line as TextLine, linesAt, Collecting, between, header, inside, stops, begin, goOn, collected, ended, next, blocksFrom, behindSignature, blocks}
+use Rattle.format.specs.Blocks.{Line as TextLine, linesAt, Collecting, between, header, inside, stops, begin, goOn, collected, ended, next, blocksFrom, afterSignature, blocks}
 use Rattle.format.specs.Lists.{Cue, Item, nothing, cue, style, region, meaning, isCue, itemsFrom, items, Lists, into, listed, lists}
 use Rattle.format.specs.Rows.{directionOf, lineOf, lineAlignOf, positionOf, positionAlignOf, alignOf, regionIndexOf, scrollOf, directionWord, lineWord, lineNumberWord, snapWord, lineAlignWord, positionWord, positionNumberWord, positionAlignWord, alignWord, regionWord, scrollWord, greatestWord}
 use Rattle.format.specs.Rows.{word, cueEntryWith, cueWords, regionWords, styleWords, cueEntry, regionEntry, styleEntry, regionFor, entryIs, ids, indexIs, cueRows, regionRows, styleRows}
@@ -199,10 +199,10 @@ items-length seen (b ∷ bs) =
     omega (arith, into-length (meaning seen b) (listed later), items-length (seen || isCue (meaning seen b)) bs)
 
 regions-length : (s : List ℕ) → length (lists s .regions) ≤ suc (length s)
-unfolding lists items blocks behindSignature collected
+unfolding lists items blocks afterSignature collected
 regions-length s = omega (arith, items-length false (blocks s), few (linesAt 0 0 (split s)), lines-length 0 0 (split s), split-length s)
   where
-    few : (ls : List TextLine) → length (behindSignature ls) ≤ length ls
+    few : (ls : List TextLine) → length (afterSignature ls) ≤ length ls
     few [] = omega arith
     few (l ∷ ls) = omega (arith, blocks-length header ls)
 

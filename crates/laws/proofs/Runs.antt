@@ -88,7 +88,7 @@ run-first p s i end r l =
     (λ n. let k = length-take-le (end - i) (drop i s) (omega (arith, r .inside, length-drop i s)) in
     absurd (omega (arith, ap length (sym (run-stop p s i (omega (arith, r .inside)) n) ∙ r .bytes), k)))
 
--- the byte behind a run
+-- the byte after a run
 pastRun-first : (p : ℕ → Bool) (x : List ℕ) (b : ℕ) (r : List ℕ) → pastRun p x ≡ b ∷ r → p b ≡ false
 unfolding pastRun
 pastRun-first p [] b r e = let z : _≡_ {A = ℕ} 0 1 = cc in absurd (omega arith)

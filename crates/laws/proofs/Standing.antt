@@ -11,11 +11,11 @@ use borrow.Author.Tests.{ltb-true}
 use lib.Seq.{take-length, append-snoc, take-take, take-add, take-append-seam, drop-append-seam, drop-drop}
 use Rattle.format.specs.Bytes.{ascii, lf, white, digit, fullStop, hyphen, greater, colon, percent, comma}
 use Rattle.format.specs.Limits.{maxLine}
-use Rattle.format.specs.Texts.{Part, nowhere, isEmpty, same, endsWith, beforeFirst, run, pastRun, startsWith}
+use Rattle.format.specs.Texts.{Part, emptyPart, isEmpty, same, endsWith, beforeFirst, run, pastRun, startsWith}
 use Rattle.format.specs.Numbers.{number, percentage, LineNumber, lineNumber, overLine, isNegative, millionths, lineCount}
 use Rattle.format.specs.Tokens.{inToken, onToken, beforeTokens, tokens, nameOf, valueOf}
 use Rattle.format.specs.CueSettings.{CueSettings, Taken, setRegion, direction, setVertical, setLine, lineAlign, linePercentage, lineCounted}
-use Rattle.format.specs.CueSettings.{lineSetting, setPosition, positionAlign, positionOf, positionSetting, setSize, sizeOf, setAlign, named}
+use Rattle.format.specs.CueSettings.{lineSetting, setPosition, positionAlign, positionGiven, positionSetting, setSize, sizeOf, setAlign, named}
 use Rattle.format.specs.CueSettings.{cueSetting, settingsFrom, cueSettings, isHorizontal, taken, openingSettings}
 use Rattle.format.specs.declared.settings.Line.{Line as LineSetting}
 use Rattle.format.specs.declared.settings.Line.the-variants as LineSetting
@@ -26,15 +26,15 @@ use Rattle.format.specs.RegionSettings.{namedRegion, regionSetting, regionFrom,
 use Rattle.format.specs.Times.{Result, failed, got, onGot, Step, _>>=_, holds, expect, hoursFirst, field, threeValues, inRange, lastSteps}
 use Rattle.format.specs.Times.{timestamp}
 use Rattle.format.specs.TimingLines.{skipWhite, arrow, Times, arrowAndEnd, timings, Timing, withSettings, timingOf, timingLine}
-use Rattle.format.specs.Lines.{endedLines, join}
+use Rattle.format.specs.Lines.{afterLineEnds, join}
 use Rattle.format.specs.Blocks.{Line, linesAt, linePart, holdsArrow, Collecting, between, header, inside, stops, begin, goOn, collected, ended, next}
-use Rattle.format.specs.Blocks.{blocksFrom, behindSignature, blocks, bytesOf, joined}
+use Rattle.format.specs.Blocks.{blocksFrom, afterSignature, blocks, bytesOf, joined}
 use Rattle.format.specs.Lists.{Cue, Item, nothing, cue, style, region, cueOf, regionOf, isWord, definition, meaning, isCue, itemsFrom}
 use Rattle.format.specs.Lists.{items, Lists, into, listed, lists}
 use Rattle.laws.proofs.Tests.{by-test}
 use Rattle.laws.proofs.Runs.{drop-take, pastRun-drop}
 use Rattle.laws.proofs.Lines.{splits}
-use Rattle.laws.proofs.Tokens.{behind-at}
+use Rattle.laws.proofs.Tokens.{after-at}
 
 -- these bytes stand at this place of the text
 abbrev pub StandsAt : List ℕ → ℕ → List ℕ → Type 0
@@ -43,8 +43,8 @@ StandsAt s p x = take (length x) (drop p s) ≡ x
 abbrev pub Stands : List ℕ → Part → Type 0
 Stands s l = StandsAt s (l .place) (l .bytes)
 
-pub stands-nowhere : (s : List ℕ) → Stands s nowhere
-stands-nowhere s = refl
+pub stands-empty : (s : List ℕ) → Stands s emptyPart
+stands-empty s = refl
 
 pub stands-drop : (s : List ℕ) (p n : ℕ) (x : List ℕ) → StandsAt s p x → StandsAt s (p + n) (drop n x)
 stands-drop s p n x h = rw (length-drop n x, ← drop-drop n p s, ← drop-take n (length x) (drop p s)) (ap (drop n) h)
@@ -124,7 +124,7 @@ module _ (s : List ℕ) where
 
   pub stands-value : (t : Part) → Stands s t → Stands s (valueOf t)
   unfolding valueOf nameOf
-  stands-value t h = rw (behind-at colon (t .bytes)) (stands-drop s (t .place) (suc (length (beforeFirst colon (t .bytes)))) (t .bytes) h)
+  stands-value t h = rw (after-at colon (t .bytes)) (stands-drop s (t .place) (suc (length (beforeFirst colon (t .bytes)))) (t .bytes) h)
 
 -- a line that is not minus zero
 abbrev pub Signed : LineSetting → Type 0
@@ -133,7 +133,7 @@ Signed (LineSetting.At false n) = Unit
 Signed (LineSetting.At true n) = 0 < n
 
 -- a setting leaves a cue's region as it was, takes it away, or puts its value there
-module _ (P : Part → Type 0) (at-nowhere : P nowhere) where
+module _ (P : Part → Type 0) (at-empty : P emptyPart) where
   OfCue : Taken → Type 0
   OfCue t = P (t .settings .region)
 
@@ -141,16 +141,16 @@ module _ (P : Part → Type 0) (at-nowhere : P nowhere) where
   unfolding OfCue linePercentage setLine
   line-percentage none a c h = h
   line-percentage (some n) none c h = h
-  line-percentage (some n) (some a) c h = at-nowhere
+  line-percentage (some n) (some a) c h = at-empty
 
   line-counted : (n : Option LineNumber) (a : Option LineAlign) (c : CueSettings) → P (c .region) → OfCue (lineCounted n a c)
   unfolding OfCue lineCounted setLine
   line-counted none a c h = h
   line-counted (some n) none c h = h
-  line-counted (some n) (some a) c h = either OfCue (overLine n) h at-nowhere
+  line-counted (some n) (some a) c h = either OfCue (overLine n) h at-empty
 
-  position-of : (n : Option ℕ) (a : Option PositionAlign) (c : CueSettings) → P (c .region) → P (positionOf n a c .region)
-  unfolding positionOf setPosition
+  position-of : (n : Option ℕ) (a : Option PositionAlign) (c : CueSettings) → P (c .region) → P (positionGiven n a c .region)
+  unfolding positionGiven setPosition
   position-of none a c h = h
   position-of (some n) none c h = h
   position-of (some n) (some a) c h = h
@@ -164,12 +164,12 @@ module _ (P : Part → Type 0) (at-nowhere : P nowhere) where
       let a = lineAlign x (c .line .align) in
       either OfCue (isEmpty name || isEmpty x) h
       (either OfCue (same name (ascii "region")) v
-      (either OfCue (same name (ascii "vertical")) (either P (isHorizontal (direction x (c .vertical))) h at-nowhere)
+      (either OfCue (same name (ascii "vertical")) (either P (isHorizontal (direction x (c .vertical))) h at-empty)
       (either OfCue (same name (ascii "line"))
       (either OfCue (endsWith percent n) (line-percentage (percentage n) a c h) (line-counted (lineNumber n) a c h))
       (either OfCue (same name (ascii "position")) (position-of (percentage n) (positionAlign x (c .position .align)) c h)
       (either OfCue (same name (ascii "size"))
-      (by-option (λ n. P (sizeOf n c .region)) (percentage x) h (λ n. either P (eqb n 100_000_000) h at-nowhere))
+      (by-option (λ n. P (sizeOf n c .region)) (percentage x) h (λ n. either P (eqb n 100_000_000) h at-empty))
       (either OfCue (same name (ascii "align")) h h))))))
 
   cue-settings : (s : Taken) (ts : List Part) → All (λ t. P (valueOf t)) ts → OfCue s → OfCue (settingsFrom s ts)
@@ -229,8 +229,8 @@ module _ (c : CueSettings) (h : Signed (c .line .line)) where
   counted-signed (some n) none = h
   counted-signed (some n) (some a) = either OfLine (overLine n) h (line-signed n)
 
-  position-signed : (n : Option ℕ) (a : Option PositionAlign) → Signed (positionOf n a c .line .line)
-  unfolding positionOf setPosition
+  position-signed : (n : Option ℕ) (a : Option PositionAlign) → Signed (positionGiven n a c .line .line)
+  unfolding positionGiven setPosition
   position-signed none a = h
   position-signed (some n) none = h
   position-signed (some n) (some a) = h
@@ -277,13 +277,13 @@ stands-values s p h = all-values s (tokens (p .place) (p .bytes)) (stands-token 
 pub stands-cue-settings : (s : List ℕ) (p : Part) → Stands s p → Stands s (cueSettings p .settings .region)
 unfolding cueSettings OfCue
 stands-cue-settings s p h =
-    let none = stands-nowhere s in
+    let none = stands-empty s in
     cue-settings (Stands s) none (taken openingSettings) (tokens (p .place) (p .bytes)) (stands-values s p h) none
 
 pub stands-region : (s : List ℕ) (p : Part) → Stands s p → Stands s (regionSettings p .region .id)
 unfolding regionSettings OfRegion
 stands-region s p h =
-    let none = stands-nowhere s in
+    let none = stands-empty s in
     region-settings (Stands s) none (takenRegion openingRegion) (tokens (p .place) (p .bytes)) (stands-values s p h) none
 
 -- what a step leaves is the end of what it was given
@@ -421,18 +421,18 @@ unfolding bytesOf linesAt
 bytes-lines n p [] = refl
 bytes-lines n p (l ∷ ls) = ap (λ r. l ∷ r) (bytes-lines (suc n) (p + suc (length l)) ls)
 
-pub ended-append : (a b : List (List ℕ)) → endedLines (a ++ b) ≡ endedLines a ++ endedLines b
-unfolding endedLines
+pub ended-append : (a b : List (List ℕ)) → afterLineEnds (a ++ b) ≡ afterLineEnds a ++ afterLineEnds b
+unfolding afterLineEnds
 ended-append [] b = refl
 ended-append (l ∷ a) b =
-    ap (λ r. lf ∷ (l ++ r)) (ended-append a b) ∙ ap (λ r. lf ∷ r) (sym (append-assoc l (endedLines a) (endedLines b)))
+    ap (λ r. lf ∷ (l ++ r)) (ended-append a b) ∙ ap (λ r. lf ∷ r) (sym (append-assoc l (afterLineEnds a) (afterLineEnds b)))
 
-join-append : (l : List ℕ) (a b : List Line) → join (l ∷ bytesOf (a ++ b)) ≡ join (l ∷ bytesOf a) ++ endedLines (bytesOf b)
+join-append : (l : List ℕ) (a b : List Line) → join (l ∷ bytesOf (a ++ b)) ≡ join (l ∷ bytesOf a) ++ afterLineEnds (bytesOf b)
 unfolding join
 join-append l a b =
-    ap (λ r. l ++ endedLines r) (bytes-append a b)
+    ap (λ r. l ++ afterLineEnds r) (bytes-append a b)
     ∙ ap (λ r. l ++ r) (ended-append (bytesOf a) (bytesOf b))
-    ∙ sym (append-assoc l (endedLines (bytesOf a)) (endedLines (bytesOf b)))
+    ∙ sym (append-assoc l (afterLineEnds (bytesOf a)) (afterLineEnds (bytesOf b)))
 
 -- the lines that a block being collected has so far
 linesIn : Collecting → List Line
@@ -443,30 +443,30 @@ linesIn (inside ls) = ls
 module _ (s : List ℕ) where
   follow-joined : (ls : List Line) → Follow s ls → Stands s (joined ls)
   unfolding joined
-  follow-joined [] h = stands-nowhere s
+  follow-joined [] h = stands-empty s
   follow-joined (l ∷ ls) h = h .0
 
   follow-line : (l : Line) (ls : List Line) → Follow s (l ∷ ls) → Stands s (linePart l)
   unfolding joined bytesOf join
-  follow-line l ls h = stands-front s (l .place) (l .bytes) (endedLines (bytesOf ls)) (h .0)
+  follow-line l ls h = stands-front s (l .place) (l .bytes) (afterLineEnds (bytesOf ls)) (h .0)
 
   follow-front : (a b : List Line) → Follow s (a ++ b) → Follow s a
   unfolding joined bytesOf
   follow-front [] b h = tt
   follow-front (l ∷ a) b h =
       let joins = join-append (l .bytes) a b in
-      (stands-front s (l .place) (join (l .bytes ∷ bytesOf a)) (endedLines (bytesOf b)) (rw joins at (h .0)), follow-front a b (h .1))
+      (stands-front s (l .place) (join (l .bytes ∷ bytesOf a)) (afterLineEnds (bytesOf b)) (rw joins at (h .0)), follow-front a b (h .1))
 
   follow-back : (a b : List Line) → Follow s (a ++ b) → Follow s b
   follow-back [] b h = h
   follow-back (l ∷ a) b h = follow-back a b (h .1)
 
   follow-lines : (n p : ℕ) (l : List ℕ) (ls : List (List ℕ)) → StandsAt s p (join (l ∷ ls)) → Follow s (linesAt n p (l ∷ ls))
-  unfolding joined bytesOf linesAt join endedLines
+  unfolding joined bytesOf linesAt join afterLineEnds
   follow-lines n p l [] h = (h, tt)
   follow-lines n p l (m ∷ ls) h =
       let e : p + length l + 1 ≡ p + suc (length l) = omega arith in
-      let rest = stands-back s (p + length l) (lf ∷ []) (m ++ endedLines ls) (stands-back s p l (lf ∷ (m ++ endedLines ls)) h) in
+      let rest = stands-back s (p + length l) (lf ∷ []) (m ++ afterLineEnds ls) (stands-back s p l (lf ∷ (m ++ afterLineEnds ls)) h) in
       (rw (bytes-lines (suc (suc n)) (p + suc (length l) + suc (length m)) ls) h, follow-lines (suc n) (p + suc (length l)) m ls (rw e at rest))
 
   -- a block's lines follow each other
@@ -497,7 +497,7 @@ module _ (s : List ℕ) where
       (λ n. rw n (follow-blocks (goOn st l) ls (follow-on st l ls h)))
 
   pub blocks-follow : All (Follow s) (blocks s)
-  unfolding blocks behindSignature linesIn linesAt
+  unfolding blocks afterSignature linesIn linesAt
   blocks-follow =
       let t = splits s in
       let h = follow-lines 0 0 (t .first) (t .rest) (rw (t .joined) (take-length s)) in
@@ -534,12 +534,12 @@ module _ (s : List ℕ) where
   meaning-stands seen [] h = tt
   meaning-stands seen (first ∷ []) h =
       either ItemStands (holdsArrow (first .bytes))
-      (cue-stands nowhere (linePart first) [] (timingLine (linePart first)) refl (stands-nowhere s) (follow-line first [] h) tt) tt
+      (cue-stands emptyPart (linePart first) [] (timingLine (linePart first)) refl (stands-empty s) (follow-line first [] h) tt) tt
   meaning-stands seen (first ∷ (second ∷ ls)) h =
       let ls₂ = second ∷ ls in
       let one = follow-line first ls₂ h in
       either ItemStands (holdsArrow (first .bytes))
-      (cue-stands nowhere (linePart first) ls₂ (timingLine (linePart first)) refl (stands-nowhere s) one (h .1))
+      (cue-stands emptyPart (linePart first) ls₂ (timingLine (linePart first)) refl (stands-empty s) one (h .1))
       (either ItemStands (holdsArrow (second .bytes))
       (cue-stands (linePart first) (linePart second) ls (timingLine (linePart second)) refl one (follow-line second ls (h .1)) (h .1 .1))
       (either ItemStands seen tt

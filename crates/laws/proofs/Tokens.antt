@@ -9,7 +9,7 @@ use lib.ListN.{length, getD, take, drop, drop-of-length-le, length-drop}
 use lib.Seq.{drop-cons, drop-drop, length-take-le}
 use borrow.Author.Tests.{ltb-true, ltb-false}
 use Rattle.format.specs.Bytes.{white}
-use Rattle.format.specs.Texts.{Part, run, has, beforeFirst, behindFirst}
+use Rattle.format.specs.Texts.{Part, run, has, beforeFirst, afterFirst}
 use Rattle.format.specs.Tokens.{inToken, onToken, beforeTokens, tokens}
 use Rattle.laws.proofs.Tests.{by-test}
 use Rattle.laws.proofs.Runs.{RunAt, run-moves, all-stops}
@@ -87,7 +87,7 @@ word p b (c ∷ s) n =
     (joined p b (c ∷ s) (record { place = suc p; bytes = c ∷ run inside s })
     (tokens (suc p + suc (length (run inside s))) (drop (length (run inside s)) s)) n (in-token c s z) (word (suc p) c s z)))
 
--- the tokens from a place of a text on: whitespace from i to j, and then none, or one from j to k and those behind it
+-- the tokens from a place of a text on: whitespace from i to j, and then none, or one from j to k and those after it
 module _ (s : List ℕ) (i j : ℕ) (w : RunAt white s i j) where
   skipped : length (run white (drop i s)) ≡ j - i
   skipped = ap length (w .bytes) ∙ length-take-le (j - i) (drop i s) (omega (arith, w .inside, length-drop i s))
@@ -134,7 +134,7 @@ pub first-at : (c : ℕ) (s : List ℕ) → has c s ≡ ltb (length (beforeFirst
 unfolding has beforeFirst
 first-at c s = sym (all-stops (λ b. not (eqb b c)) s)
 
-pub behind-at : (c : ℕ) (s : List ℕ) → behindFirst c s ≡ drop (suc (length (beforeFirst c s))) s
-unfolding behindFirst beforeFirst run
-behind-at c [] = refl
-behind-at c (b ∷ s) = by-test (eqb b c) (λ y. rw y) (λ n. rw n (behind-at c s))
+pub after-at : (c : ℕ) (s : List ℕ) → afterFirst c s ≡ drop (suc (length (beforeFirst c s))) s
+unfolding afterFirst beforeFirst run
+after-at c [] = refl
+after-at c (b ∷ s) = by-test (eqb b c) (λ y. rw y) (λ n. rw n (after-at c s))

@@ -15,7 +15,7 @@ use Rattle.format.specs.Answers.{Answer, accepted, refused, ifAccepted, placed}
 use Rattle.format.specs.Converting.{plainnessIs, testing}
 use Rattle.format.specs.declared.Tree.{Tree}
 use Rattle.format.specs.declared.Tree.the-variants as Tree
-use Rattle.laws.proofs.Answers.{behind-test, front, not-plain, all-plain}
+use Rattle.laws.proofs.Answers.{after-test, front, not-plain, all-plain}
 use Rattle.node_laws.proofs.RowLaws.{length-rows, tree-stands}
 use Rattle.node_sizes.specs.Needs.{Sized}
 use Rattle.markup.specs.Answering.{sizedAnswer, timedAnswer, Answers}
@@ -88,11 +88,11 @@ accepted-counts :
     → accepted (length (nodes s) ∷ length (nodeStrings (nodes s)) ∷ []) ≡ accepted vs
 unfolding treeing
 accepted-counts s room table vs e =
-    let short = behind-test (ltb maxText (length s)) 1 [] vs _ e .1 in
-    let plain = behind-test (ltb (firstNotPlain s) (length s)) 3 (firstNotPlain s ∷ []) vs _ short .1 in
-    let within = behind-test (anyTimeOver (cueTokens s)) 5 [] vs _ plain .1 in
-    let fits = behind-test (ltb room (length (nodeStrings (nodes s)))) 2 (length (nodeStrings (nodes s)) ∷ []) vs _ within .1 in
-    behind-test (ltb table (length (nodes s))) 6 (length (nodes s) ∷ []) vs _ fits .1
+    let short = after-test (ltb maxText (length s)) 1 [] vs _ e .1 in
+    let plain = after-test (ltb (firstNotPlain s) (length s)) 3 (firstNotPlain s ∷ []) vs _ short .1 in
+    let within = after-test (anyTimeOver (cueTokens s)) 5 [] vs _ plain .1 in
+    let fits = after-test (ltb room (length (nodeStrings (nodes s)))) 2 (length (nodeStrings (nodes s)) ∷ []) vs _ within .1 in
+    after-test (ltb table (length (nodes s))) 6 (length (nodes s) ∷ []) vs _ fits .1
 
 -- the room and the table of the whole
 module _ {s : List ℕ} {r : Tree} {room room′ : List ℕ} {table table′ : List (List ℕ)}

@@ -1,4 +1,4 @@
--- What reading a cue text answers behind its first checks, and what the room and the table then hold.
+-- What reading a cue text answers after its first checks, and what the room and the table then hold.
 use Prim.Native.Nat.{ℕ}
 use mathlib.Core.Path.{_≡_}
 use mathlib.Core.Bool.{cond}
@@ -17,7 +17,7 @@ sizedAnswer s room table =
     (cond (ltb table (length (nodes s))) (refused 6 (length (nodes s) ∷ []))
     (accepted (length (nodes s) ∷ length (nodeStrings (nodes s)) ∷ [])))
 
--- check 5 and those behind it
+-- check 5 and those after it
 unfoldable pub timedAnswer : List ℕ → ℕ → ℕ → Answer
 timedAnswer s room table = cond (anyTimeOver (cueTokens s)) (refused 5 []) (sizedAnswer s room table)
 

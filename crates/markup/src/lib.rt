@@ -8,7 +8,7 @@ ghost use Prim.Native.Nat.{ℕ, _≤_};
 ghost use lib.ListN.{length, take};
 ghost use Rattle.format.specs.Limits.{maxText};
 ghost use Rattle.format.specs.Trees.{treeIs, treeing, treeRoom, treeTable, TreeStands};
-ghost use Rattle.format.specs.declared.Tree.the-variants as Answer;
+ghost use Rattle.format.specs.declared.Tree.the-variants as Cases;
 ghost use Rattle.node_sizes.specs.Needs.{Sized};
 ghost use Rattle.markup.specs.Answering.{sizedAnswer, timedAnswer, Answers};
 
@@ -33,7 +33,7 @@ fn read_sized(
     Tree::Nodes { count, used }
 }
 
-// Check 5 and those behind it.
+// Check 5 and those after it.
 fn read_plain(text: &[u8], room: &mut [u8], nodes: &mut [NodeRow]) -> Tree
     requires { ⌜ length (now text) ≤ maxText ⌝ }
     ensures { λ r. ⌜ Answers (timedAnswer (now (text .entry)) (length (now (room .entry))) (length (now (nodes .entry)))) (now (text .entry)) r (now (room .entry)) (now (room .exit)) (now (nodes .entry)) (now (nodes .exit)) ⌝ }
@@ -49,7 +49,7 @@ pub fn tree(text: &[u8], room: &mut [u8], nodes: &mut [NodeRow]) -> Tree
     ensures answer { λ r. ⌜ treeIs r ≡ treeing (now (text .entry)) (length (now (room .entry))) (length (now (nodes .entry))) ⌝ }
     ensures room { λ _. ⌜ now (room .exit) ≡ treeRoom (now (text .entry)) (now (room .entry)) (length (now (nodes .entry))) ⌝ }
     ensures nodes { λ _. ⌜ now (nodes .exit) ≡ treeTable (now (text .entry)) (length (now (room .entry))) (now (nodes .entry)) ⌝ }
-    ensures stands { λ r. ⌜ ((count used : ℕ) → r ≡ Answer.Nodes count used → TreeStands (now (text .entry)) (take used (now (room .exit))) (take count (now (nodes .exit)))) ⌝ }
+    ensures stands { λ r. ⌜ ((count used : ℕ) → r ≡ Cases.Nodes count used → TreeStands (now (text .entry)) (take used (now (room .exit))) (take count (now (nodes .exit)))) ⌝ }
 {
     if format::MAX_TEXT < text.len() {
         return Tree::TextTooLong;

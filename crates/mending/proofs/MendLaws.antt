@@ -7,13 +7,13 @@ use native.Mathlib.Omega.{arith}
 use lib.Dec.{eqb, ltb}
 use lib.ListN.{length, take, drop}
 use Rattle.format.specs.Bytes.{lf}
-use Rattle.format.specs.Texts.{run, beforeFirst, behindFirst}
+use Rattle.format.specs.Texts.{run, beforeFirst, afterFirst}
 use Rattle.format.specs.Answers.{ifAccepted}
 use Rattle.format.specs.Converting.{convertedRoom}
 use Rattle.format.specs.Replacing.{replacingIs, replacing, replacedRoom, Replaced}
 use Rattle.format.specs.declared.Replacing.{Replacing}
 use Rattle.format.specs.declared.Replacing.the-variants as Replacing
-use Rattle.laws.proofs.Tokens.{behind-at}
+use Rattle.laws.proofs.Tokens.{after-at}
 use Rattle.mending.specs.Mended.{OutIs, ScratchIs, toldIs}
 
 module _ (raw : List ℕ) (number : ℕ) (t w : List ℕ) (scratch : ℕ) (out left : List ℕ) where
@@ -56,9 +56,9 @@ scratch-told raw scratch left longer f g e Replacing.NoGap = rw (f, g) e
 scratch-told raw scratch left longer f g e Replacing.FileTooLong = rw (f, g) e
 scratch-told raw scratch left longer f g e (Replacing.OutTooShort n) = rw (f, g) e
 
--- what stands behind the line
-pub behind-line : (s : List ℕ) (end : ℕ) → end ≡ 0 + length (run (λ b. not (eqb b lf)) s) → behindFirst lf s ≡ drop (end + 1) s
+-- what stands after the line
+pub after-line : (s : List ℕ) (end : ℕ) → end ≡ 0 + length (run (λ b. not (eqb b lf)) s) → afterFirst lf s ≡ drop (end + 1) s
 unfolding beforeFirst
-behind-line s end e =
+after-line s end e =
     let k : suc (length (beforeFirst lf s)) ≡ end + 1 = omega arith in
-    behind-at lf s ∙ ap (λ n. drop n s) k
+    after-at lf s ∙ ap (λ n. drop n s) k

@@ -1,18 +1,18 @@
 // One cue of a raw file replaced by what a request line asks for. The line stands before the file, in one input.
 use format::Replacing;
 use requests::Asked;
-use values::bytes::Kind;
+use values::bytes::ByteKind;
 use values::bytes::past;
 ghost use mathlib.Core.Path.{_≡_};
 ghost use lib.ListN.{length};
 ghost use Rattle.format.specs.Bytes.{lf};
-ghost use Rattle.format.specs.Texts.{behindFirst};
+ghost use Rattle.format.specs.Texts.{afterFirst};
 ghost use Rattle.mending.specs.Mended.{toldIs, OutIs, ScratchIs};
 
 // The greatest length in bytes of a request line, without its LF.
 const MAX_LINE: usize = 4_096;
 
-// The greatest length in bytes of the raw file behind it.
+// The greatest length in bytes of the raw file after it.
 const MAX_RAW: usize = 16_384;
 
 pub enum Mending {
@@ -42,7 +42,7 @@ fn told(answer: Replacing) -> Mending
     }
 }
 
-// What a request line asks for in a raw file. `longer` says that the file goes on behind what is lent; a bad request is told before that.
+// What a request line asks for in a raw file. `longer` says that the file goes on after what is lent; a bad request is told before that.
 fn mend_line(line: &[u8], raw: &[u8], longer: bool, scratch: &mut [u8], out: &mut [u8]) -> Mending
     ensures out { λ r. ⌜ OutIs (now (raw .entry)) (length (now (scratch .entry))) (now (out .entry)) r (now (out .exit)) ⌝ }
     ensures scratch { λ r. ⌜ ScratchIs (now (raw .entry)) longer (now (scratch .entry)) r (now (scratch .exit)) ⌝ }
@@ -69,19 +69,19 @@ fn mend_line(line: &[u8], raw: &[u8], longer: bool, scratch: &mut [u8], out: &mu
     ))
 }
 
-// What the request line at the input's start asks for in the raw file behind it. The new file goes to `out`, the old file's plain text to
-// `scratch`. `longer` says that the input goes on behind what is lent.
+// What the request line at the input's start asks for in the raw file after it. The new file goes to `out`, the old file's plain text to
+// `scratch`. `longer` says that the input goes on after what is lent.
 pub fn mend(input: &[u8], longer: bool, scratch: &mut [u8], out: &mut [u8]) -> Mending
-    ensures out { λ r. ⌜ OutIs (behindFirst lf (now (input .entry))) (length (now (scratch .entry))) (now (out .entry)) r (now (out .exit)) ⌝ }
-    ensures scratch { λ r. ⌜ ScratchIs (behindFirst lf (now (input .entry))) longer (now (scratch .entry)) r (now (scratch .exit)) ⌝ }
+    ensures out { λ r. ⌜ OutIs (afterFirst lf (now (input .entry))) (length (now (scratch .entry))) (now (out .entry)) r (now (out .exit)) ⌝ }
+    ensures scratch { λ r. ⌜ ScratchIs (afterFirst lf (now (input .entry))) longer (now (scratch .entry)) r (now (scratch .exit)) ⌝ }
 {
-    let end = past(input, 0, Kind::Until(b'\n'));
+    let end = past(input, 0, ByteKind::Until(b'\n'));
     if MAX_LINE < end {
         return Mending::BadRequest;
     }
     if input.len() <= end {
         return Mending::BadRequest;
     }
-    let behind = end + 1;
-    mend_line(&input[..end], &input[behind..], longer, scratch, out)
+    let after = end + 1;
+    mend_line(&input[..end], &input[after..], longer, scratch, out)
 }

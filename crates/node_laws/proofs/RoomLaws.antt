@@ -12,7 +12,7 @@ use Rattle.format.specs.Bytes.{less, solidus, digit, white, space}
 use Rattle.format.specs.Texts.{isEmpty, run, pastRun}
 use Rattle.format.specs.Times.{Time}
 use Rattle.format.specs.CueText.{Token, stringToken, startTag, endTag, timestampTag, visitEnd, cueTokensFrom, cueTokens}
-use Rattle.format.specs.Trees.{Node, isKind, Open, kindOf, attached, classString, tagTime, valueFor, element, stamped, made, pathBehind, nodesFrom, nodes, nodeStrings}
+use Rattle.format.specs.Trees.{Node, isKind, Open, kindOf, attached, classString, tagTime, valueFor, element, stamped, made, pathAfter, nodesFrom, nodes, nodeStrings}
 use Rattle.format.specs.declared.kinds.NodeKind.{NodeKind}
 use Rattle.format.specs.declared.kinds.NodeKind.the-variants as NodeKind
 use Rattle.laws.proofs.Tests.{by-test}
@@ -20,12 +20,12 @@ use Rattle.laws.proofs.Runs.{run-length, pastRun-drop}
 use Rattle.tokenizer.specs.Tags.{inName, classesOf, startOf, tagOf}
 use Rattle.tokenizer.proofs.Strings.{notLess, string-token}
 use Rattle.tokenizer.proofs.Tags.{notGreater, tag-token}
-use Rattle.strings.specs.Stores.{such, one}
+use Rattle.strings.specs.Stores.{separates, one}
 use Rattle.strings.proofs.TextLaws.{decoded-length, collapsed-length, class-string}
 use Rattle.nodes.specs.Tokens.{madeIs, tokenClasses, tokenValue}
 use Rattle.nodes.specs.declared.tokens.Made.{Made}
 use Rattle.nodes.specs.declared.tokens.Made.the-variants as Made
-use Rattle.node_laws.specs.Sizes.{topKind, kindsBehind, madeCount, madeLength, countFrom, lengthFrom}
+use Rattle.node_laws.specs.Sizes.{topKind, kindsAfter, madeCount, madeLength, countFrom, lengthFrom}
 use Rattle.node_laws.proofs.TreeLaws.{nodeStrings-append}
 
 -- the bytes that a token's strings have at the most
@@ -39,26 +39,26 @@ unfoldable sizes : List Token → ℕ
 sizes [] = 0
 sizes (t ∷ ts) = size t + sizes ts
 
--- a run and what stands behind it are the text
+-- a run and what stands after it are the text
 run-parts : (p : ℕ → Bool) (s : List ℕ) → length (run p s) + length (pastRun p s) ≡ length s
 run-parts p s = rw (pastRun-drop p s) (omega (arith, length-drop (length (run p s)) s, run-length p s))
 
 classes-size : (k : List ℕ) → length (classString (classesOf k)) ≤ length k
 unfolding classesOf classString
 classes-size [] = omega arith
-classes-size (b ∷ k) = rw (class-string k) (omega (arith, collapsed-length (such true) (one true) k))
+classes-size (b ∷ k) = rw (class-string k) (omega (arith, collapsed-length (separates true) (one true) k))
 
 start-size : (x : List ℕ) → size (startOf [] x) ≤ length x
 unfolding startOf size
 start-size x =
     let rest = pastRun (inName true) x in
-    let behind = pastRun (inName false) rest in
+    let beyond = pastRun (inName false) rest in
     omega (
       arith,
       run-parts (inName true) x,
       run-parts (inName false) rest,
       classes-size (run (inName false) rest),
-      collapsed-length white space behind,
+      collapsed-length white space beyond,
     )
 
 tag-size : (x : List ℕ) → size (tagOf x) ≤ length x
@@ -157,8 +157,8 @@ unfolding nodesFrom sizes nodeStrings
 nodes-size path index [] = omega arith
 nodes-size path index (t ∷ ts) =
     let ms = made path t in
-    let rest = nodesFrom (pathBehind path index t) (index + length ms) ts in
-    let more = nodes-size (pathBehind path index t) (index + length ms) ts in
+    let rest = nodesFrom (pathAfter path index t) (index + length ms) ts in
+    let more = nodes-size (pathAfter path index t) (index + length ms) ts in
     rw (nodeStrings-append ms rest) (omega (arith, length-append (nodeStrings ms) (nodeStrings rest), made-size path t))
 
 -- "the room used is never more than the cue text's length"
@@ -179,7 +179,7 @@ length-size (Made.Node k time) (timestampTag value) = omega arith
 lengths-size : (ks : List NodeKind) (ts : List Token) → lengthFrom ks ts ≤ sizes ts
 unfolding lengthFrom sizes
 lengths-size ks [] = omega arith
-lengths-size ks (t ∷ ts) = omega (arith, length-size (madeIs (topKind ks) t) t, lengths-size (kindsBehind ks t) ts)
+lengths-size ks (t ∷ ts) = omega (arith, length-size (madeIs (topKind ks) t) t, lengths-size (kindsAfter ks t) ts)
 
 count-one : (m : Made) → madeCount m ≤ 1
 unfolding madeCount
@@ -190,7 +190,7 @@ count-one (Made.Node k time) = omega arith
 counts-size : (ks : List NodeKind) (ts : List Token) → countFrom ks ts ≤ length ts
 unfolding countFrom
 counts-size ks [] = omega arith
-counts-size ks (t ∷ ts) = omega (arith, count-one (madeIs (topKind ks) t), counts-size (kindsBehind ks t) ts)
+counts-size ks (t ∷ ts) = omega (arith, count-one (madeIs (topKind ks) t), counts-size (kindsAfter ks t) ts)
 
 pub length-bound : (s : List ℕ) → lengthFrom [] (cueTokens s) ≤ length s
 length-bound s = omega (arith, lengths-size [] (cueTokens s), sizes-bound s)

@@ -13,7 +13,7 @@ use Rattle.format.specs.Times.{Time}
 use Rattle.format.specs.CueText.{Token, stringToken, startTag, endTag, timestampTag, cueTokens}
 use Rattle.format.specs.Rows.{word}
 use Rattle.format.specs.Texts.{bytesAt}
-use Rattle.format.specs.Trees.{Node, kindWord, kindNamed, Open, parentOf, kindOf, attached, tagTime, element, stamped, made, entering, pathBehind, nodesFrom, nodes, nodeStrings, placeWords, parentWord, nodeWords, nodeRows, parentNamed, kindNumbered, nodeOfRow, parentBefore, parentsFirst, TreeStands}
+use Rattle.format.specs.Trees.{Node, kindWord, kindNamed, Open, parentOf, kindOf, attached, tagTime, element, stamped, made, entering, pathAfter, nodesFrom, nodes, nodeStrings, placeWords, parentWord, nodeWords, nodeRows, parentNamed, kindNumbered, nodeOfRow, parentBefore, parentsFirst, TreeStands}
 use Rattle.format.specs.declared.kinds.NodeKind.{NodeKind}
 use Rattle.format.specs.declared.kinds.NodeKind.the-variants as NodeKind
 use Rattle.laws.proofs.Tests.{and-left, and-right, and-both}
@@ -131,7 +131,7 @@ first-append i (n ∷ xs) ys p q =
 -- what a token gives has the current node as its parent, and the nodes that are then open are before the next node
 record Turn (path : List Open) (index : ℕ) (t : Token) : Type 0 where
   first : parentsFirst index (made path t) ≡ true
-  then : Before (index + length (made path t)) (pathBehind path index t)
+  then : Before (index + length (made path t)) (pathAfter path index t)
 
 -- by what the token gives: a start tag's node, which becomes the current one, or a timestamp's
 element-turn :
@@ -139,7 +139,7 @@ element-turn :
     → o ≡ attached (kindOf path) name
     → Before index path
     → Turn path index (startTag name classes annotation)
-unfolding made element pathBehind entering parentsFirst
+unfolding made element pathAfter entering parentsFirst
 element-turn path index name classes annotation none e b =
     record { first = rw (sym e) refl; then = rw (sym e) (later (index + 0) (omega arith) b) }
 element-turn path index name classes annotation (some k) e b =
@@ -153,13 +153,13 @@ stamp-turn :
     → o ≡ tagTime value
     → Before index path
     → Turn path index (timestampTag value)
-unfolding made stamped pathBehind parentsFirst
+unfolding made stamped pathAfter parentsFirst
 stamp-turn path index value none e b = record { first = rw (sym e) refl; then = rw (sym e) (later (index + 0) (omega arith) b) }
 stamp-turn path index value (some t) e b =
     record { first = rw (sym e) (current-first b); then = rw (sym e) (later (index + 1) (omega arith) b) }
 
 turn : (path : List Open) (index : ℕ) (t : Token) → Before index path → Turn path index t
-unfolding made pathBehind parentsFirst
+unfolding made pathAfter parentsFirst
 turn path index (stringToken value) b = record { first = current-first b; then = later (index + 1) (omega arith) b }
 turn path index (startTag name classes annotation) b = element-turn path index name classes annotation (attached (kindOf path) name) refl b
 turn path index (endTag name) b =
@@ -173,7 +173,7 @@ parents-first path index [] b = refl
 parents-first path index (t ∷ ts) b =
     let now = turn path index t b in
     let next = index + length (made path t) in
-    first-append index (made path t) (nodesFrom (pathBehind path index t) next ts) (now .first) (parents-first (pathBehind path index t) next ts (now .then))
+    first-append index (made path t) (nodesFrom (pathAfter path index t) next ts) (now .first) (parents-first (pathAfter path index t) next ts (now .then))
 
 -- the rows and the strings of every text's nodes are such a tree
 pub tree-stands : (s : List ℕ) → TreeStands s (nodeStrings (nodes s)) (nodeRows 0 (nodes s))

@@ -12,14 +12,14 @@ use Rattle.format.specs.Bytes.{ascii}
 use Rattle.format.specs.Texts.{same}
 use Rattle.format.specs.Times.{Time, milliseconds, overHours}
 use Rattle.format.specs.CueText.{Token, stringToken, startTag, endTag, timestampTag}
-use Rattle.format.specs.Trees.{Node, kindWord, kindNamed, isKind, Open, parentOf, kindOf, attached, leaving, tagTime, valueFor, element, stamped, made, entering, pathBehind, nodesFrom, timeOver, tokenOver, anyTimeOver, nodeStrings}
+use Rattle.format.specs.Trees.{Node, kindWord, kindNamed, isKind, Open, parentOf, kindOf, attached, leaving, tagTime, valueFor, element, stamped, made, entering, pathAfter, nodesFrom, timeOver, tokenOver, anyTimeOver, nodeStrings}
 use Rattle.format.specs.declared.kinds.NodeKind.{NodeKind}
 use Rattle.format.specs.declared.kinds.NodeKind.the-variants as NodeKind
 use Rattle.laws.proofs.Tests.{by-test, or-first, or-second}
 use Rattle.nodes.specs.Tokens.{elementMade, stampMade, madeIs, tokenClasses, tokenValue, leftKind}
 use Rattle.nodes.specs.declared.tokens.Made.{Made}
 use Rattle.nodes.specs.declared.tokens.Made.the-variants as Made
-use Rattle.node_laws.specs.Sizes.{kindsOf, topKind, leavingKinds, behindMade, kindsBehind, madeCount, madeLength, countFrom, lengthFrom}
+use Rattle.node_laws.specs.Sizes.{kindsOf, topKind, leavingKinds, afterMade, kindsAfter, madeCount, madeLength, countFrom, lengthFrom}
 
 -- a kind that a tag names has children
 data Element : Option NodeKind → Type 0 where
@@ -86,14 +86,14 @@ leaving-none (o ∷ path) = refl
 
 -- what a token gives below these open nodes, its node having this index
 pub data Gives (path : List Open) (index : ℕ) (t : Token) : Made → Type 0 where
-  ignored : made path t ≡ [] → tokenOver t ≡ false → pathBehind path index t ≡ leaving (leftKind t) path → Gives path index t Made.None
+  ignored : made path t ≡ [] → tokenOver t ≡ false → pathAfter path index t ≡ leaving (leftKind t) path → Gives path index t Made.None
   above : tokenOver t ≡ true → Gives path index t Made.Over
   attaches :
       {k : NodeKind} {time : ℕ}
       → made path t
       ≡ record { parent = parentOf path; kind = k; classes = tokenClasses t; value = tokenValue k t; time = time } ∷ []
       → tokenOver t ≡ false
-      → pathBehind path index t ≡ cond (ltb (kindWord k) 8) (record { index = index; kind = k } ∷ path) path
+      → pathAfter path index t ≡ cond (ltb (kindWord k) 8) (record { index = index; kind = k } ∷ path) path
       → Gives path index t (Made.Node k time)
 
 element-gives :
@@ -101,13 +101,13 @@ element-gives :
     → o ≡ attached (kindOf path) name
     → Element o
     → Gives path index (startTag name classes annotation) (elementMade o)
-unfolding elementMade made element entering pathBehind tokenOver leftKind tokenClasses tokenValue valueFor isKind
+unfolding elementMade made element entering pathAfter tokenOver leftKind tokenClasses tokenValue valueFor isKind
 element-gives path index name classes annotation e nothing = ignored (rw (sym e) refl) refl (rw (sym e, leaving-none path) refl)
 element-gives path index name classes annotation e (one {k} h) =
     attaches {k = k} {time = 0} (rw (sym e) refl) refl (rw (sym e, lt-ltb (kindWord k) 8 h) refl)
 
 stamp-gives : (path : List Open) (index : ℕ) (value : List ℕ) (o : Option Time) → o ≡ tagTime value → Gives path index (timestampTag value) (stampMade o)
-unfolding stampMade made stamped pathBehind tokenOver timeOver leftKind tokenClasses tokenValue
+unfolding stampMade made stamped pathAfter tokenOver timeOver leftKind tokenClasses tokenValue
 stamp-gives path index value none e = ignored (rw (sym e) refl) (rw (sym e) refl) (sym (leaving-none path))
 stamp-gives path index value (some t) e =
     by-test (overHours t)
@@ -115,7 +115,7 @@ stamp-gives path index value (some t) e =
     (λ n. rw n (attaches {k = NodeKind.Timestamp} {time = milliseconds t} (rw (sym e) refl) (rw (sym e) n) refl))
 
 pub gives : (path : List Open) (index : ℕ) (t : Token) → Gives path index t (madeIs (kindOf path) t)
-unfolding madeIs made pathBehind tokenOver leftKind tokenClasses tokenValue
+unfolding madeIs made pathAfter tokenOver leftKind tokenClasses tokenValue
 gives path index (stringToken value) = attaches {k = NodeKind.String} {time = 0} refl refl refl
 gives path index (startTag name classes annotation) =
     element-gives path index name classes annotation refl (attached-element (kindOf path) name)
@@ -132,10 +132,10 @@ nodeStrings-append (n ∷ xs) ys =
 pub record Turn (path : List Open) (index : ℕ) (t : Token) (m : Made) : Type 0 where
   pub count : length (made path t) ≡ madeCount m
   pub used : length (nodeStrings (made path t)) ≡ madeLength m t
-  pub kinds : kindsOf (pathBehind path index t) ≡ behindMade m (leftKind t) (kindsOf path)
+  pub kinds : kindsOf (pathAfter path index t) ≡ afterMade m (leftKind t) (kindsOf path)
 
 given : (path : List Open) (index : ℕ) (t : Token) {m : Made} → tokenOver t ≡ false → Gives path index t m → Turn path index t m
-unfolding madeCount madeLength behindMade nodeStrings kindsOf
+unfolding madeCount madeLength afterMade nodeStrings kindsOf
 given path index t f (ignored e o b) =
     record {
       count = rw e refl;
@@ -159,15 +159,15 @@ pub counted :
     → anyTimeOver ts ≡ false
     → (length (nodesFrom path index ts) ≡ countFrom (kindsOf path) ts)
     × (length (nodeStrings (nodesFrom path index ts)) ≡ lengthFrom (kindsOf path) ts)
-unfolding nodesFrom countFrom lengthFrom anyTimeOver nodeStrings kindsBehind
+unfolding nodesFrom countFrom lengthFrom anyTimeOver nodeStrings kindsAfter
 counted path index [] f = (refl, refl)
 counted path index (t ∷ ts) f =
     let turn = turns path index t (or-first (tokenOver t) (anyTimeOver ts) f) in
     let ms = made path t in
-    let rest = nodesFrom (pathBehind path index t) (index + length ms) ts in
-    let more = counted (pathBehind path index t) (index + length ms) ts (or-second (tokenOver t) (anyTimeOver ts) f) in
-    let count : length rest ≡ countFrom (kindsBehind (kindsOf path) t) ts = more .0 ∙ ap (λ ks. countFrom ks ts) (turn .kinds) in
-    let used : length (nodeStrings rest) ≡ lengthFrom (kindsBehind (kindsOf path) t) ts =
+    let rest = nodesFrom (pathAfter path index t) (index + length ms) ts in
+    let more = counted (pathAfter path index t) (index + length ms) ts (or-second (tokenOver t) (anyTimeOver ts) f) in
+    let count : length rest ≡ countFrom (kindsAfter (kindsOf path) t) ts = more .0 ∙ ap (λ ks. countFrom ks ts) (turn .kinds) in
+    let used : length (nodeStrings rest) ≡ lengthFrom (kindsAfter (kindsOf path) t) ts =
     more .1 ∙ ap (λ ks. lengthFrom ks ts) (turn .kinds) in (
       omega (arith, length-append ms rest, turn .count),
       ap length (nodeStrings-append ms rest) ∙ omega (arith, length-append (nodeStrings ms) (nodeStrings rest), turn .used),

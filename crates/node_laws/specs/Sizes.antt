@@ -29,13 +29,13 @@ leavingKinds named (k ∷ ks) =
     cond (isKind named k) ks (cond (isKind named NodeKind.Ruby && isKind (some k) NodeKind.RubyText) (drop 1 ks) (k ∷ ks))
 
 -- the kinds that are open after a token that gives this; the kinds whose word is below 8 have children
-unfoldable pub behindMade : Made → Option NodeKind → List NodeKind → List NodeKind
-behindMade Made.None left ks = leavingKinds left ks
-behindMade Made.Over left ks = ks
-behindMade (Made.Node kind time) left ks = cond (ltb (kindWord kind) 8) (kind ∷ ks) ks
+unfoldable pub afterMade : Made → Option NodeKind → List NodeKind → List NodeKind
+afterMade Made.None left ks = leavingKinds left ks
+afterMade Made.Over left ks = ks
+afterMade (Made.Node kind time) left ks = cond (ltb (kindWord kind) 8) (kind ∷ ks) ks
 
-unfoldable pub kindsBehind : List NodeKind → Token → List NodeKind
-kindsBehind ks t = behindMade (madeIs (topKind ks) t) (leftKind t) ks
+unfoldable pub kindsAfter : List NodeKind → Token → List NodeKind
+kindsAfter ks t = afterMade (madeIs (topKind ks) t) (leftKind t) ks
 
 unfoldable pub madeCount : Made → ℕ
 madeCount Made.None = 0
@@ -49,8 +49,8 @@ madeLength (Made.Node kind time) t = length (tokenClasses t) + length (tokenValu
 
 unfoldable pub countFrom : List NodeKind → List Token → ℕ
 countFrom ks [] = 0
-countFrom ks (t ∷ ts) = madeCount (madeIs (topKind ks) t) + countFrom (kindsBehind ks t) ts
+countFrom ks (t ∷ ts) = madeCount (madeIs (topKind ks) t) + countFrom (kindsAfter ks t) ts
 
 unfoldable pub lengthFrom : List NodeKind → List Token → ℕ
 lengthFrom ks [] = 0
-lengthFrom ks (t ∷ ts) = madeLength (madeIs (topKind ks) t) t + lengthFrom (kindsBehind ks t) ts
+lengthFrom ks (t ∷ ts) = madeLength (madeIs (topKind ks) t) t + lengthFrom (kindsAfter ks t) ts

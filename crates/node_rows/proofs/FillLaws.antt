@@ -14,7 +14,7 @@ use Rattle.format.specs.Limits.{maxText}
 use Rattle.format.specs.Answers.{placed}
 use Rattle.format.specs.Texts.{isEmpty}
 use Rattle.format.specs.CueText.{Token, visitEnd, cueTokensFrom, cueTokens}
-use Rattle.format.specs.Trees.{Node, kindWord, isKind, Open, parentOf, kindOf, leaving, made, pathBehind, nodesFrom, nodes, tokenOver, anyTimeOver, nodeStrings, placeWords, parentWord, nodeWords, nodeRows, nodeOfRow}
+use Rattle.format.specs.Trees.{Node, kindWord, isKind, Open, parentOf, kindOf, leaving, made, pathAfter, nodesFrom, nodes, tokenOver, anyTimeOver, nodeStrings, placeWords, parentWord, nodeWords, nodeRows, nodeOfRow}
 use Rattle.format.specs.declared.kinds.NodeKind.{NodeKind}
 use Rattle.format.specs.declared.kinds.NodeKind.the-variants as NodeKind
 use Rattle.laws.proofs.Tests.{by-test, or-first, or-second}
@@ -173,9 +173,9 @@ room-more :
 room-more room₀ y x h =
     let d = drop (length y) room₀ in
     let fits : length y + length x ≤ length (y ++ d) = omega (arith, length-append y d, length-drop (length y) room₀) in
-    let behind : drop (length y + length x) (y ++ d) ≡ drop (length (y ++ x)) room₀ =
+    let beyond : drop (length y + length x) (y ++ d) ≡ drop (length (y ++ x)) room₀ =
     drop-append-add y d (length x) ∙ drop-drop (length x) (length y) room₀ ∙ ap (λ k. drop k room₀) (sym (length-append y x)) in
-    stored-within (length y) x (y ++ d) fits ∙ rw (take-append-seam y d, behind)
+    stored-within (length y) x (y ++ d) fits ∙ rw (take-append-seam y d, beyond)
 
 -- how far the second pass is: the nodes that are done, and those that are open
 pub record Filling (s room₀ : List ℕ) (rows₀ : List (List ℕ)) (at : ℕ) (m : Filled) (room : List ℕ) (rows : List (List ℕ)) : Type 0 where
@@ -233,10 +233,10 @@ module _ (s room₀ : List ℕ) (rows₀ : List (List ℕ)) where
       abbrev i : ℕ
       i = length (f .done)
 
-      abbrev behind : List Open
-      behind = pathBehind (f .path) i tok
+      abbrev beyond : List Open
+      beyond = pathAfter (f .path) i tok
 
-      whole-goes : nodes s ≡ f .done ++ (made (f .path) tok ++ nodesFrom behind (i + length (made (f .path) tok)) (cueTokens (drop next s)))
+      whole-goes : nodes s ≡ f .done ++ (made (f .path) tok ++ nodesFrom beyond (i + length (made (f .path) tok)) (cueTokens (drop next s)))
       unfolding nodesFrom
       whole-goes = f .whole ∙ ap (λ ts. f .done ++ nodesFrom (f .path) i ts) e
 
@@ -253,7 +253,7 @@ module _ (s room₀ : List ℕ) (rows₀ : List (List ℕ)) where
       -- a token that gives no node
       pub filling-left :
           made (f .path) tok ≡ []
-          → behind ≡ leaving (leftKind tok) (f .path)
+          → beyond ≡ leaving (leftKind tok) (f .path)
           → Filling s room₀ rows₀ next (record { count = m .count; used = m .used; current = leftIn rows (m .current) (leftKind tok) }) room rows
       filling-left g p =
           let keep : i + 0 ≡ i = omega arith in
@@ -277,7 +277,7 @@ module _ (s room₀ : List ℕ) (rows₀ : List (List ℕ)) where
           (g :
           made (f .path) tok
           ≡ record { parent = parentOf (f .path); kind = k; classes = tokenClasses tok; value = tokenValue k tok; time = time } ∷ [])
-          (p : behind ≡ cond (ltb (kindWord k) 8) (record { index = i; kind = k } ∷ f .path) (f .path)) where
+          (p : beyond ≡ cond (ltb (kindWord k) 8) (record { index = i; kind = k } ∷ f .path) (f .path)) where
         abbrev n : Node
         n = record { parent = parentOf (f .path); kind = k; classes = tokenClasses tok; value = tokenValue k tok; time = time }
 

@@ -27,7 +27,7 @@ use Rattle.nodes.specs.declared.tokens.Made.{Made}
 use Rattle.nodes.specs.declared.tokens.Made.the-variants as Made
 use Rattle.stack.specs.Kinds.{kinds, Holds, Emptied}
 use Rattle.stack.specs.declared.kinds.Stack.{Stack}
-use Rattle.node_laws.specs.Sizes.{kindsOf, topKind, leavingKinds, behindMade, kindsBehind, madeCount, madeLength, countFrom, lengthFrom}
+use Rattle.node_laws.specs.Sizes.{kindsOf, topKind, leavingKinds, afterMade, kindsAfter, madeCount, madeLength, countFrom, lengthFrom}
 use Rattle.node_sizes.specs.Needs.{Sized}
 use Rattle.node_sizes.specs.Turns.{opened, madeBelow, Ready, Passed}
 use Rattle.node_sizes.specs.declared.measuring.Measured.{Measured}
@@ -91,7 +91,7 @@ opens s at next (Token.Start name classes annotation) current kind time parts ma
       marked .1 l,
       parts .between,
       parts .classed,
-      parts .behind,
+      parts .beyond,
       parts .annotated,
     )
 opens s at next (Token.End p) current kind time parts marked e h l = none-node e
@@ -106,8 +106,8 @@ left-length named (k ∷ ks) =
     (λ n. by-test (isKind named NodeKind.Ruby && isKind (some k) NodeKind.RubyText) (λ y. rw (n, y) (omega (arith, length-drop 1 ks))) (λ m. rw (n, m) (omega arith)))
 
 module _ (s : List ℕ) (at : ℕ) (t : Token) (next : ℕ) (f : TokenAt s at t next) (ks : List NodeKind) (h : 3 * length ks ≤ at) (l : next < length s) where
-  depth-made : (left : Option NodeKind) (m : Made) → madeIs (topKind ks) (tokenIs s t) ≡ m → 3 * length (behindMade m left ks) ≤ next
-  unfolding behindMade
+  depth-made : (left : Option NodeKind) (m : Made) → madeIs (topKind ks) (tokenIs s t) ≡ m → 3 * length (afterMade m left ks) ≤ next
+  unfolding afterMade
   depth-made left Made.None e = omega (arith, f .moves, left-length left ks)
   depth-made left Made.Over e = omega (arith, f .moves)
   depth-made left (Made.Node kind time) e =
@@ -115,8 +115,8 @@ module _ (s : List ℕ) (at : ℕ) (t : Token) (next : ℕ) (f : TokenAt s at t 
       (λ y. rw y (omega (arith, opens s at next t (topKind ks) kind time (f .parts) (f .marked) e (ltb-true (kindWord kind) 8 y) l)))
       (λ n. rw n (omega (arith, f .moves)))
 
-  depth : 3 * length (kindsBehind ks (tokenIs s t)) ≤ next
-  unfolding kindsBehind
+  depth : 3 * length (kindsAfter ks (tokenIs s t)) ≤ next
+  unfolding kindsAfter
   depth = depth-made (leftKind (tokenIs s t)) (madeIs (topKind ks) (tokenIs s t)) refl
 
 -- what is known at a place of the text, the open nodes being on the stack in these words, which are as many as were lent
@@ -164,13 +164,13 @@ module _ (s lent : List ℕ) (at : ℕ) (m : Measured) (words : List ℕ) (reach
 
   module _ (t : Token) (next : ℕ) (f : TokenAt s at t next) where
     count-first :
-        countFrom ks (cueTokens (drop at s)) ≡ madeCount (madeBelow s t m words) + countFrom (kindsBehind ks (tokenIs s t)) (cueTokens (drop next s))
+        countFrom ks (cueTokens (drop at s)) ≡ madeCount (madeBelow s t m words) + countFrom (kindsAfter ks (tokenIs s t)) (cueTokens (drop next s))
     unfolding countFrom
     count-first = ap (countFrom ks) (f .first)
 
     length-first :
         lengthFrom ks (cueTokens (drop at s))
-        ≡ madeLength (madeBelow s t m words) (tokenIs s t) + lengthFrom (kindsBehind ks (tokenIs s t)) (cueTokens (drop next s))
+        ≡ madeLength (madeBelow s t m words) (tokenIs s t) + lengthFrom (kindsAfter ks (tokenIs s t)) (cueTokens (drop next s))
     unfolding lengthFrom
     length-first = ap (lengthFrom ks) (f .first)
 

@@ -20,7 +20,7 @@ use Rattle.nodes.specs.declared.tokens.Made.{Made}
 use Rattle.nodes.specs.declared.tokens.Made.the-variants as Made
 use Rattle.stack.specs.Kinds.{kinds, topOf, Popped}
 use Rattle.stack.specs.declared.kinds.Stack.{Stack}
-use Rattle.node_laws.specs.Sizes.{topKind, leavingKinds, behindMade, kindsBehind, madeCount, madeLength}
+use Rattle.node_laws.specs.Sizes.{topKind, leavingKinds, afterMade, kindsAfter, madeCount, madeLength}
 use Rattle.node_sizes.specs.Turns.{opened, Left, Entered, madeBelow, Passed}
 use Rattle.node_sizes.specs.declared.measuring.Measured.{Measured}
 
@@ -89,7 +89,7 @@ module _ (s : List ℕ) (t : Token) (m : Measured) (words : List ℕ) where
       → madeBelow s t m words ≡ Made.None
       → Left (leftKind (tokenIs s t)) (m .stack) words r
       → Passed s t m words (record { stack = r; count = m .count; used = m .used }) words
-  unfolding isOver kindsBehind behindMade madeCount madeLength
+  unfolding isOver kindsAfter afterMade madeCount madeLength
   passed-none r e l =
       record {
         within = over-made e;
@@ -111,7 +111,7 @@ module _ (s : List ℕ) (t : Token) (m : Measured) (words : List ℕ) where
         → Entered kind (m .stack) words r left
         → used ≡ m .used + length (tokenClasses (tokenIs s t)) + length (tokenValue kind (tokenIs s t))
         → Passed s t m words (record { stack = r; count = m .count + 1; used = used }) left
-    unfolding isOver kindsBehind behindMade madeCount
+    unfolding isOver kindsAfter afterMade madeCount
     passed-node r used left n u =
         record {
           within = over-made e;

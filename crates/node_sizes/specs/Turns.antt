@@ -15,7 +15,7 @@ use Rattle.nodes.specs.Tokens.{madeIs}
 use Rattle.nodes.specs.declared.tokens.Made.{Made}
 use Rattle.stack.specs.Kinds.{kinds, Holds}
 use Rattle.stack.specs.declared.kinds.Stack.{Stack}
-use Rattle.node_laws.specs.Sizes.{topKind, leavingKinds, kindsBehind, madeCount, madeLength}
+use Rattle.node_laws.specs.Sizes.{topKind, leavingKinds, kindsAfter, madeCount, madeLength}
 use Rattle.node_sizes.specs.declared.measuring.Measured.{Measured}
 use Rattle.node_sizes.specs.declared.measuring.Turned.{Turned}
 use Rattle.node_sizes.specs.declared.measuring.Turned.the-variants as Turned
@@ -51,7 +51,7 @@ pub record Ready (s : List ℕ) (t : Token) (m : Measured) (words : List ℕ) : 
 -- the token was passed
 pub record Passed (s : List ℕ) (t : Token) (m : Measured) (words : List ℕ) (r : Measured) (left : List ℕ) : Type 0 where
   pub within : tokenOver (tokenIs s t) ≡ false
-  pub path : opened (r .stack) left ≡ kindsBehind (opened (m .stack) words) (tokenIs s t)
+  pub path : opened (r .stack) left ≡ kindsAfter (opened (m .stack) words) (tokenIs s t)
   pub holds : Holds (r .stack) left
   pub long : length left ≡ length words
   pub count : r .count ≡ m .count + madeCount (madeBelow s t m words)

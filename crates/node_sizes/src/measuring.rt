@@ -90,8 +90,8 @@ fn enter(path: Stack, kind: NodeKind, words: &mut [u64]) -> Stack
     stack::kinds::push(path, word, words)
 }
 
-// The place behind the strings of a token's node. They are put into a room of one byte, since only the place is asked for.
-fn behind_strings(text: &[u8], token: Token, kind: NodeKind, at: usize) -> usize
+// The place after the strings of a token's node. They are put into a room of one byte, since only the place is asked for.
+fn after_strings(text: &[u8], token: Token, kind: NodeKind, at: usize) -> usize
     requires { ⌜ (PartsIn (now text) 0 (length (now text)) token) × (length (now text) ≤ maxText) × (at + length (tokenClasses (tokenIs (now text) token)) ≤ maxText) ⌝ }
     ensures { λ r. ⌜ r ≡ at + length (tokenClasses (tokenIs (now (text .entry)) token)) + length (tokenValue kind (tokenIs (now (text .entry)) token)) ⌝ }
 {
@@ -120,11 +120,11 @@ fn turn(text: &[u8], token: Token, m: Measured, words: &mut [u64]) -> Turned
         }
         Made::Over => Turned::Over,
         Made::Node { kind, time: _ } => {
-            let behind = behind_strings(text, token, kind, used);
+            let after = after_strings(text, token, kind, used);
             Turned::On(Measured {
                 stack: enter(path, kind, words),
                 count: count + 1,
-                used: behind,
+                used: after,
             })
         }
     }

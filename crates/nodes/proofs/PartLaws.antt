@@ -16,7 +16,7 @@ use Rattle.tokenizer.specs.Tags.{classesOf, spanBytes, PartsIn, StartIn}
 use Rattle.tokenizer.specs.declared.Token.{Token}
 use Rattle.tokenizer.specs.declared.Token.the-variants as Token
 use Rattle.tokenizer.proofs.Spans.{part-first}
-use Rattle.strings.specs.Stores.{such, one}
+use Rattle.strings.specs.Stores.{separates, one}
 use Rattle.strings.proofs.TextLaws.{classes-of, classes-of-none}
 
 -- a part lies in a text
@@ -39,16 +39,16 @@ module _ (s : List ℕ) (t : Token) (h : PartsIn s 0 (length s) t) where
     start-in = rw e at h
 
     pub name-in : In s n
-    name-in = let k = start-in in record { ends = k .named; inside = omega (arith, k .between, k .classed, k .behind, k .annotated, k .last) }
+    name-in = let k = start-in in record { ends = k .named; inside = omega (arith, k .between, k .classed, k .beyond, k .annotated, k .last) }
 
     pub classes-in : In s q
-    classes-in = let k = start-in in record { ends = k .classed; inside = omega (arith, k .behind, k .annotated, k .last) }
+    classes-in = let k = start-in in record { ends = k .classed; inside = omega (arith, k .beyond, k .annotated, k .last) }
 
     pub annotation-in : In s r
     annotation-in = let k = start-in in record { ends = k .annotated; inside = k .last }
 
     -- classes parted by full stops, empty ones left out, are the part with its full stops collapsed
-    pub class-part : collapsed (such true) (one true) (spanBytes s q) ≡ classString (classesOf (spanBytes s q))
+    pub class-part : collapsed (separates true) (one true) (spanBytes s q) ≡ classString (classesOf (spanBytes s q))
     unfolding bytesAt
     class-part =
         by-test (ltb (q .from) (q .to))

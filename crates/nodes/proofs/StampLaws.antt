@@ -1,4 +1,4 @@
--- A timestamp tag's time, told by where the time ends: nothing stands behind it.
+-- A timestamp tag's time, told by where the time ends: nothing stands after it.
 use Prim.Native.Nat.{ℕ, zero, suc, _-_, _<_, _≤_}
 use mathlib.Core.Path.{_≡_, refl, sym, ap, _∙_}
 use mathlib.Core.Bool.{cond}
@@ -10,7 +10,7 @@ use borrow.Author.Tests.{lt-ltb, le-ltb}
 use Rattle.format.specs.Texts.{isEmpty, run}
 use Rattle.format.specs.Times.{Result, failed, got, Time, overHours, onGot}
 use Rattle.format.specs.Times as Times
-use Rattle.format.specs.Trees.{nothingBehind, tagTime}
+use Rattle.format.specs.Trees.{nothingAfter, tagTime}
 use Rattle.format.specs.declared.kinds.NodeKind.the-variants as NodeKind
 use Rattle.laws.proofs.Tests.{by-test}
 use Rattle.values.specs.Times.{stampIs}
@@ -26,8 +26,8 @@ told n Stamp.Bad = Made.None
 told n (Stamp.Over next) = cond (ltb next n) Made.None Made.Over
 told n (Stamp.At ms next) = cond (ltb next n) Made.None (Made.Node NodeKind.Timestamp ms)
 
-told-is : (n : ℕ) (r : Result Time) → (n ≡ 0 → r ≡ failed) → told n (stampIs n r) ≡ stampMade (nothingBehind r)
-unfolding stampMade nothingBehind
+told-is : (n : ℕ) (r : Result Time) → (n ≡ 0 → r ≡ failed) → told n (stampIs n r) ≡ stampMade (nothingAfter r)
+unfolding stampMade nothingAfter
 told-is n failed h = refl
 told-is n (got t []) h =
     let e : n - 0 ≡ n = omega arith in

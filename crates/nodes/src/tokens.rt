@@ -95,7 +95,7 @@ fn element(text: &[u8], from: usize, to: usize, current: MaybeKind) -> Made
     }
 }
 
-// The node of a timestamp tag: a time and nothing behind it.
+// The node of a timestamp tag: a time and nothing after it.
 fn stamp(s: &[u8]) -> Made
     ensures { λ r. ⌜ r ≡ stampMade (tagTime (now (s .entry))) ⌝ }
 {

@@ -1,4 +1,4 @@
--- Laws of putting bytes: one text behind another, and what a room holds in the end.
+-- Laws of putting bytes: one text after another, and what a room holds in the end.
 use Prim.Native.Nat.{ℕ, suc, _+_, _≤_, _<_}
 use mathlib.Core.Path.{_≡_, refl, sym, ap, _∙_}
 use mathlib.Core.List.{List, [], _∷_, _++_}
@@ -10,16 +10,16 @@ use borrow.Author.Tests.{lt-ltb, le-ltb, ltb-true, ltb-false}
 use Rattle.format.specs.Limits.{maxFile}
 use Rattle.format.specs.Answers.{placed}
 use Rattle.laws.proofs.Tests.{by-test}
-use Rattle.output.specs.Puts.{onward, placeBehind, roomWith, Puts}
+use Rattle.output.specs.Puts.{onward, placeAfter, roomWith, Puts}
 
-pub place-append : (at : ℕ) (x y : List ℕ) → placeBehind at (x ++ y) ≡ placeBehind (placeBehind at x) y
-unfolding placeBehind
+pub place-append : (at : ℕ) (x y : List ℕ) → placeAfter at (x ++ y) ≡ placeAfter (placeAfter at x) y
+unfolding placeAfter
 place-append at [] y = refl
 place-append at (b ∷ x) y = place-append (onward at) x y
 
 pub room-append :
-    (at : ℕ) (x y out : List ℕ) → roomWith at (x ++ y) out ≡ roomWith (placeBehind at x) y (roomWith at x out)
-unfolding placeBehind roomWith
+    (at : ℕ) (x y out : List ℕ) → roomWith at (x ++ y) out ≡ roomWith (placeAfter at x) y (roomWith at x out)
+unfolding placeAfter roomWith
 room-append at [] y out = refl
 room-append at (b ∷ x) y out = room-append (onward at) x y (set out at b)
 
@@ -38,27 +38,27 @@ unfolding onward
 onward-above at h = rw (lt-ltb maxFile at h) refl
 
 pub puts-within : {b at : ℕ} {out o : List ℕ} → o ≡ set out at b → at ≤ maxFile → Puts (b ∷ []) at out (at + 1) o
-unfolding placeBehind roomWith
+unfolding placeAfter roomWith
 puts-within {b} {at} e h = record { place = sym (onward-within at h); holds = e }
 
 pub puts-above : {b at : ℕ} {out o : List ℕ} → o ≡ set out at b → maxFile < at → Puts (b ∷ []) at out at o
-unfolding placeBehind roomWith
+unfolding placeAfter roomWith
 puts-above {b} {at} e h = record { place = sym (onward-above at h); holds = e }
 
--- nothing, one text behind another, and the same text by another name
+-- nothing, one text after another, and the same text by another name
 pub puts-none : (at : ℕ) (out : List ℕ) → Puts [] at out at out
-unfolding placeBehind roomWith
+unfolding placeAfter roomWith
 puts-none at out = record { place = refl; holds = refl }
 
 infixl 5 _then_
 pub _then_ : {x y out o p : List ℕ} {at n m : ℕ} → Puts x at out n o → Puts y n o m p → Puts (x ++ y) at out m p
 _then_ {x} {y} {out} {o} {p} {at} {n} {m} f g =
     record {
-      place = g .place ∙ ap (λ k. placeBehind k y) (f .place) ∙ sym (place-append at x y);
+      place = g .place ∙ ap (λ k. placeAfter k y) (f .place) ∙ sym (place-append at x y);
       holds =
           g .holds
           ∙ ap (λ k. roomWith k y o) (f .place)
-          ∙ ap (roomWith (placeBehind at x) y) (f .holds)
+          ∙ ap (roomWith (placeAfter at x) y) (f .holds)
           ∙ sym (room-append at x y out);
     }
 
@@ -74,13 +74,13 @@ puts-from {x} {out} {o} {p} {at} {n} e f = rw (sym e) f
 pub puts-length : {x out o : List ℕ} {at n : ℕ} → Puts x at out n o → length o ≡ length out
 puts-length {x} {out} {o} {at} {n} f = ap length (f .holds) ∙ length-room at x out
 
--- while no place is above the greatest length of a file, the places are counted and the bytes stand one behind another
-pub place-within : (at : ℕ) (x : List ℕ) → at + length x ≤ maxFile + 1 → placeBehind at x ≡ at + length x
-unfolding placeBehind
+-- while no place is above the greatest length of a file, the places are counted and the bytes stand one after another
+pub place-within : (at : ℕ) (x : List ℕ) → at + length x ≤ maxFile + 1 → placeAfter at x ≡ at + length x
+unfolding placeAfter
 place-within at [] h = omega arith
 place-within at (b ∷ x) h =
     let e = onward-within at (omega arith) in
-    ap (λ k. placeBehind k x) e ∙ place-within (at + 1) x (omega arith) ∙ omega arith
+    ap (λ k. placeAfter k x) e ∙ place-within (at + 1) x (omega arith) ∙ omega arith
 
 pub room-within : (at : ℕ) (x out : List ℕ) → at + length x ≤ maxFile + 1 → roomWith at x out ≡ sets out at x
 unfolding roomWith
@@ -90,16 +90,16 @@ room-within at (b ∷ x) out h =
     ap (λ k. roomWith k x (set out at b)) e ∙ room-within (suc at) x (set out at b) (omega arith)
 
 -- else the place is held above it
-pub place-held : (at : ℕ) (x : List ℕ) → maxFile < at → placeBehind at x ≡ at
-unfolding placeBehind
+pub place-held : (at : ℕ) (x : List ℕ) → maxFile < at → placeAfter at x ≡ at
+unfolding placeAfter
 place-held at [] h = refl
-place-held at (b ∷ x) h = ap (λ k. placeBehind k x) (onward-above at h) ∙ place-held at x h
+place-held at (b ∷ x) h = ap (λ k. placeAfter k x) (onward-above at h) ∙ place-held at x h
 
-pub place-above : (at : ℕ) (x : List ℕ) → at ≤ maxFile → maxFile < at + length x → placeBehind at x ≡ maxFile + 1
-unfolding placeBehind
+pub place-above : (at : ℕ) (x : List ℕ) → at ≤ maxFile → maxFile < at + length x → placeAfter at x ≡ maxFile + 1
+unfolding placeAfter
 place-above at [] l h = omega arith
 place-above at (b ∷ x) l h =
-    ap (λ k. placeBehind k x) (onward-within at l)
+    ap (λ k. placeAfter k x) (onward-within at l)
     ∙ by-test (ltb maxFile (at + 1))
     (λ above. let a = ltb-true maxFile (at + 1) above in place-held (at + 1) x a ∙ omega arith)
     (λ below. place-above (at + 1) x (ltb-false maxFile (at + 1) below) (omega arith))

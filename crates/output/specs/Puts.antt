@@ -8,20 +8,20 @@ use lib.Dec.{ltb}
 use lib.ListN.{set}
 use Rattle.format.specs.Limits.{maxFile}
 
--- the place behind one byte more
+-- the place after one byte more
 unfoldable pub onward : ℕ → ℕ
 onward at = cond (ltb maxFile at) at (at + 1)
 
--- the place behind these bytes, and the room that holds them; a place outside the room stores nothing
-unfoldable pub placeBehind : ℕ → List ℕ → ℕ
-placeBehind at [] = at
-placeBehind at (b ∷ x) = placeBehind (onward at) x
+-- the place after these bytes, and the room that holds them; a place outside the room stores nothing
+unfoldable pub placeAfter : ℕ → List ℕ → ℕ
+placeAfter at [] = at
+placeAfter at (b ∷ x) = placeAfter (onward at) x
 
 unfoldable pub roomWith : ℕ → List ℕ → List ℕ → List ℕ
 roomWith at [] out = out
 roomWith at (b ∷ x) out = roomWith (onward at) x (set out at b)
 
 -- these bytes were put from a place on, and then the place and the room are these
-pub record Puts (x : List ℕ) (at : ℕ) (out : List ℕ) (behind : ℕ) (room : List ℕ) : Type 0 where
-  pub place : behind ≡ placeBehind at x
+pub record Puts (x : List ℕ) (at : ℕ) (out : List ℕ) (beyond : ℕ) (room : List ℕ) : Type 0 where
+  pub place : beyond ≡ placeAfter at x
   pub holds : room ≡ roomWith at x out

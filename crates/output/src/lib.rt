@@ -54,7 +54,7 @@ fn power(k: usize) -> u64
     p
 }
 
-// The digit of a number that has `k` digits behind it.
+// The digit of a number that has `k` digits after it.
 fn digit(n: u64, k: usize) -> u8
     requires { ⌜ k < 20 ⌝ }
     ensures { λ r. ⌜ r ≡ 0x30 + n / 10 ^ k % 10 ⌝ }

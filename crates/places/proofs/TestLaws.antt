@@ -10,7 +10,7 @@ use Rattle.format.specs.Writable.{firstFailing, partPlain, cueTest1, cueTests}
 use Rattle.format.specs.Replacing.{newTest1, newTest6, newCueFails}
 use Rattle.laws.proofs.Tests.{and-true}
 use Rattle.writable.specs.Faults.{testNumber}
-use Rattle.writable.proofs.FaultLaws.{fails-front, fails-behind}
+use Rattle.writable.proofs.FaultLaws.{fails-front, fails-after}
 
 -- the tests of the new cue but its region's
 abbrev pub fields : List ℕ → List ℕ → List Bool
@@ -54,4 +54,4 @@ module _
     unfolding cueTests
     name-decides z =
         fields-are t w names plain
-        ∙ fails-behind 1 (fields t w) (newTest6 t w names ∷ []) (omega arith) (sym first-field ∙ z)
+        ∙ fails-after 1 (fields t w) (newTest6 t w names ∷ []) (omega arith) (sym first-field ∙ z)

@@ -10,7 +10,7 @@ use Rattle.format.specs.Texts.{startsWith}
 use Rattle.format.specs.Replacing.{firstLine, lastLine}
 use Rattle.blocks.specs.Collecting.{lineEnds}
 
--- does a raw line end behind this byte, before the bytes s
+-- does a raw line end after this byte, before the bytes s
 unfoldable pub endsLine : ℕ → List ℕ → Bool
 endsLine b s = eqb b lf || (eqb b cr && not (startsWith (lf ∷ []) s))
 

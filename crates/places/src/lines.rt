@@ -40,7 +40,7 @@ pub fn raw_start(raw: &[u8], n: usize) -> usize
     i
 }
 
-// Does a line end behind the byte at a place: at LF, or at CR that is not before LF.
+// Does a line end after the byte at a place: at LF, or at CR that is not before LF.
 fn ends_line(raw: &[u8], at: usize) -> bool
     requires { ⌜ at < length (now raw) ⌝ }
     ensures { λ r. ⌜ r ≡ endsLine (getD (now (raw .entry)) at 0) (drop (at + 1) (now (raw .entry))) ⌝ }

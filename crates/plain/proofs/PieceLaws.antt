@@ -104,7 +104,7 @@ put-size s at (Replace n) h = refl
 put-size s at Line h = refl
 put-size s at Pair h = refl
 
--- the lengths of a piece and of the text behind it
+-- the lengths of a piece and of the text after it
 pub stands-size :
     (s : List ℕ) (at : ℕ) (p : Piece)
     → Stands s at p

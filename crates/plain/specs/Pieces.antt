@@ -33,7 +33,7 @@ putBy (Replace n) s = replacement
 putBy Line s = lf ∷ []
 putBy Pair s = []
 
--- the piece stands at this place: it takes at least one byte, stays within the file, and the text goes on behind it
+-- the piece stands at this place: it takes at least one byte, stays within the file, and the text goes on after it
 pub record Stands (s : List ℕ) (at : ℕ) (p : Piece) : Type 0 where
   pub some : 0 < takenBy p
   pub inside : at + takenBy p ≤ length s

@@ -53,7 +53,7 @@ pub fn stays(b: u8) -> bool
     b == b'\n'
 }
 
-// A CR at `at`, with LF behind it or not.
+// A CR at `at`, with LF after it or not.
 fn line_end(s: &[u8], at: usize) -> Piece
     requires { ⌜ (at < length (now s)) × (getD (now s) at 0 ≡ cr) ⌝ }
     ensures { λ r. ⌜ Stands (now (s .entry)) at r ⌝ }

@@ -18,7 +18,7 @@ use Rattle.format.specs.Rows.{regionEntry, cueWords, regionWords, styleWords, i
 use Rattle.laws.proofs.Tests.{by-test, or-true, or-first, or-second}
 use Rattle.laws.proofs.Filling.{Fills, fills-start, fills-room, fills-some, fills-next, fills-all, fills-end, fills-front}
 use Rattle.laws.proofs.Standing.{Stands, All, CueStands, ItemStands, items-stand, blocks-follow, lists-stand}
-use Rattle.laws.proofs.Lists.{no-regions-behind}
+use Rattle.laws.proofs.Lists.{no-regions-after}
 use Rattle.values.specs.Tokens.{partOf}
 use Rattle.blocks.specs.declared.collecting.Stop.{Stop}
 use Rattle.blocks.specs.Items.{meaningAt, NextAt, cueIs, itemIs}
@@ -194,21 +194,21 @@ module _ (s : List ℕ) (cues₀ regions₀ styles₀ : List (List ℕ)) where
     abbrev item : Item
     item = meaningAt seen s from st
 
-    abbrev behind : List Item
-    behind = itemsFrom (seen || isCue item) (fresh s (st .at))
+    abbrev beyond : List Item
+    beyond = itemsFrom (seen || isCue item) (fresh s (st .at))
 
-    now-stored : Stored n (item ∷ behind) cues regions styles
+    now-stored : Stored n (item ∷ beyond) cues regions styles
     now-stored = rw (items-next s at from st seen next) at (f .stored)
 
-    only : isCue item ≡ true → listed behind .regions ≡ []
-    only y = rw (y, or-true seen) (no-regions-behind (fresh s (st .at)))
+    only : isCue item ≡ true → listed beyond .regions ≡ []
+    only y = rw (y, or-true seen) (no-regions-after (fresh s (st .at)))
 
     within : itemOver item ≡ false
     unfolding anyOver
-    within = or-first (itemOver item) (anyOver behind) (now-stored .within)
+    within = or-first (itemOver item) (anyOver beyond) (now-stored .within)
 
     pub fill-room : RoomFor (itemIs item) n (length cues) (length regions) (length styles)
-    fill-room = room fits n behind cues regions styles item now-stored
+    fill-room = room fits n beyond cues regions styles item now-stored
 
     pub fill-next :
         Filled (st .at) (withItem (itemIs item) n) (cuesWith s (itemIs item) n regions cues) (regionsWith (itemIs item) n regions) (stylesWith (itemIs item) n styles)
@@ -220,7 +220,7 @@ module _ (s : List ℕ) (cues₀ regions₀ styles₀ : List (List ℕ)) where
           cues-most = omega (arith, far, most .0, f .cues-most);
           regions-most = omega (arith, far, most .1, f .regions-most);
           styles-most = omega (arith, far, most .2, f .styles-most);
-          stored = rw (seen-next n item within) (store fits n behind cues regions styles item only now-stored);
+          stored = rw (seen-next n item within) (store fits n beyond cues regions styles item only now-stored);
         }
 
   -- the tables when no block is left

@@ -58,7 +58,7 @@ fn entry(text: &[u8], cue: CueRead, regions: &[RegionRow], count: usize) -> CueE
     }
 }
 
-// Stores an item's row behind the rows of its list.
+// Stores an item's row after the rows of its list.
 fn put(
     text: &[u8],
     item: Item,

@@ -2,18 +2,17 @@
 use format::regions::Point;
 use format::regions::Region;
 use format::settings::Span;
-use values::bytes::Kind;
+use values::bytes::ByteKind;
 use values::bytes::same_bytes;
 use values::numbers::LineCount;
 use values::numbers::Percentage;
 use values::tokens::NameEnd;
 use values::tokens::Token;
 ghost use mathlib.Core.Path.{_≡_};
-ghost use mathlib.Core.Bool.{false};
 ghost use Prim.Native.Nat.{_≤_};
 ghost use lib.ListN.{length};
 ghost use Rattle.format.specs.Numbers.{percentage, lineCount};
-ghost use Rattle.format.specs.RegionSettings.{RegionValues, regionIs, regionSetting, point, regionSettings};
+ghost use Rattle.format.specs.RegionSettings.{point, regionSettings};
 ghost use Rattle.values.specs.Numbers.{percentageIs, lineCountIs};
 ghost use Rattle.values.specs.Tokens.{tokenFrom, partOf};
 ghost use Rattle.regions.specs.Changes.{regionNameIs, pointIs, widthChange, linesChange, anchorChange, scrollChange, namedChange, changeOf, applied, isOver, stepIs, takenIs};
@@ -61,7 +60,7 @@ pub enum PointRead {
 fn read_point(value: &[u8]) -> PointRead
     ensures { λ r. ⌜ r ≡ pointIs (point (now (value .entry))) ⌝ }
 {
-    let comma = values::bytes::past(value, 0, Kind::Until(b','));
+    let comma = values::bytes::past(value, 0, ByteKind::Until(b','));
     if comma == value.len() {
         return PointRead::Bad;
     }
@@ -227,16 +226,6 @@ fn read_region(s: &[u8], from: usize) -> RegionTaken
         taken = step(&s[..to], at, taken);
         i = to;
     }
-}
-
-// The region after one more token, the text from `from` up to `to`.
-pub fn one_setting(text: &[u8], from: usize, to: usize, region: Region) -> RegionTaken
-    ensures { λ r. ⌜ (r ≡ stepIs (partOf (now (text .entry)) from to) (record { region = region; over = false })) × ((v : RegionValues) → region ≡ regionIs v → r ≡ takenIs (regionSetting (partOf (now (text .entry)) from to) v)) ⌝ }
-{
-    let end = values::least(to, text.len());
-    let start = values::least(from, end);
-    let over = false;
-    step(&text[..end], start, RegionTaken { region, over })
 }
 
 // The region that the text from `from` up to `to` gives.

@@ -76,7 +76,7 @@ unfolding noGap lineBefore
 gap-told raw s t w id number from to r e own f g = rw (g, f, ← (own .first), e) refl
 
 pub gap-inside : (s : List ℕ) (number from to : ℕ) → number < length (lists s .cues) → OwnLines s number from to → 0 < lineEnds (take from s)
-gap-inside s number from to h own = omega (arith, own .first, cue-block-at s number h .behind-first)
+gap-inside s number from to h own = omega (arith, own .first, cue-block-at s number h .after-first)
 
 -- one check before another: where it does not refuse, the rest decides
 module _ (raw : List ℕ) (number : ℕ) (t w out : List ℕ) where

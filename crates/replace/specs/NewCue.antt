@@ -23,7 +23,7 @@ lentForm t w = cueForm t (newCueEntry w) (asked (not (isEmpty (nameLent t w))) (
 unfoldable pub inPlace : List ℕ → ℕ → ℕ → List ℕ → List ℕ → List ℕ
 inPlace raw start end t w = take start raw ++ lentForm t w ++ drop end raw
 
--- what replacing answers behind the new cue's tests, and behind the count of cues
+-- what replacing answers after the new cue's tests, and after the count of cues
 unfoldable pub gapAnswer : List ℕ → ℕ → List ℕ → List ℕ → ℕ → Answer
 gapAnswer raw number t w out =
     cond (noGap (plainText raw) number t w) (refused 9 []) (fileAnswer (newFile raw number t w) out)
@@ -32,7 +32,7 @@ unfoldable pub testedAnswer : List ℕ → ℕ → List ℕ → List ℕ → ℕ
 testedAnswer raw number t w out =
     unlessTest (newCueFails t w (regionNames (plainText raw))) number (gapAnswer raw number t w out)
 
--- what it answers behind the file's own refusals
+-- what it answers after the file's own refusals
 unfoldable pub countedAnswer : List ℕ → ℕ → List ℕ → List ℕ → ℕ → Answer
 countedAnswer raw number t w out =
     cond (not (ltb number (length (lists (plainText raw) .cues)))) (refused 7 (length (lists (plainText raw) .cues) ∷ []))

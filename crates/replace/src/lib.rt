@@ -23,7 +23,7 @@ ghost use Rattle.format.specs.Plain.{plainText, Plain};
 ghost use Rattle.format.specs.Answers.{fileAnswer};
 ghost use Rattle.format.specs.Converting.{convertedRoom};
 ghost use Rattle.format.specs.Replacing.{nameLent, newCueFails, regionNames, newFile, replacingIs, replacingText, replacing, replacedRoom, Replaced};
-ghost use Rattle.format.specs.declared.Replacing.the-variants as Answer;
+ghost use Rattle.format.specs.declared.Replacing.the-variants as Cases;
 ghost use Rattle.output.specs.Puts.{Puts};
 ghost use Rattle.blocks.specs.Collecting.{lineEnds};
 ghost use Rattle.places.specs.Places.{OwnLines};
@@ -45,8 +45,8 @@ fn put_file(
     let name = part(text, place.from, place.to);
     let words = rows::cue_of_new(row);
     let own = bytes(part(raw, 0, start), out, 0);
-    let behind = forms::cue_named(text, words, 0 < name.len(), name, out, own);
-    bytes(part(raw, end, raw.len()), out, behind)
+    let after = forms::cue_named(text, words, 0 < name.len(), name, out, own);
+    bytes(part(raw, end, raw.len()), out, after)
 }
 
 // The checks 1 (output) and 10, and the new file.
@@ -95,7 +95,7 @@ fn lacks_gap(s: &[u8], place: usize, id: &[u8]) -> bool
     !gap_before(s, place)
 }
 
-// Check 9 and those behind it.
+// Check 9 and those after it.
 fn replace_found(
     raw: &[u8],
     s: &[u8],
@@ -117,7 +117,7 @@ fn replace_found(
     replace_own(raw, s, number, own, text, row, out)
 }
 
-// Check 8 and those behind it.
+// Check 8 and those after it.
 fn replace_there(
     raw: &[u8],
     s: &[u8],
@@ -137,7 +137,7 @@ fn replace_there(
     replace_found(raw, s, number, found, text, row, out)
 }
 
-// Check 7 and those behind it, in a file that has this.
+// Check 7 and those after it, in a file that has this.
 fn replace_counted(
     raw: &[u8],
     s: &[u8],
@@ -157,7 +157,7 @@ fn replace_counted(
     replace_there(raw, s, number, found, text, row, out)
 }
 
-// The checks behind converting, in the file's plain text.
+// The checks after converting, in the file's plain text.
 fn replace_in(
     raw: &[u8],
     s: &[u8],
@@ -191,7 +191,7 @@ pub fn replace_cue(
     ensures answer { λ r. ⌜ replacingIs r ≡ replacing (now (raw .entry)) number (now (text .entry)) row (length (now (scratch .entry))) (length (now (out .entry))) ⌝ }
     ensures scratch { λ _. ⌜ now (scratch .exit) ≡ convertedRoom (now (raw .entry)) (now (scratch .entry)) ⌝ }
     ensures out { λ _. ⌜ now (out .exit) ≡ replacedRoom (now (raw .entry)) number (now (text .entry)) row (length (now (scratch .entry))) (now (out .entry)) ⌝ }
-    ensures replaced { λ r. ⌜ ((n : ℕ) → r ≡ Answer.File n → Replaced (now (raw .entry)) number (now (text .entry)) row (take n (now (out .exit)))) ⌝ }
+    ensures replaced { λ r. ⌜ ((n : ℕ) → r ≡ Cases.File n → Replaced (now (raw .entry)) number (now (text .entry)) row (take n (now (out .exit)))) ⌝ }
 {
     match plain::convert(raw, scratch) {
         Converted::Text(n) => replace_in(raw, &scratch[..n], number, text, row, out),

@@ -12,7 +12,7 @@ use Rattle.format.specs.Bytes.{ascii, lf}
 use Rattle.format.specs.Texts.{startsWith, isEmpty}
 use Rattle.format.specs.Lines.{split, onFirst, before}
 use Rattle.format.specs.Blocks.{Line, hasSignature, linesAt, between, header, inside, stops, collected, blocksFrom}
-use Rattle.format.specs.Blocks.{behindSignature, blocks, bytesOf}
+use Rattle.format.specs.Blocks.{afterSignature, blocks, bytesOf}
 use Rattle.format.specs.Lists.{Cue, Item, nothing, cue, style, region, meaning, isCue, itemsFrom, items, Lists, into, listed, lists, itemOver, anyOver}
 use Rattle.format.specs.Contents.{CueContents, RegionContents, cueContents, contents}
 use Rattle.format.specs.Written.{writtenTiming, linesOf, cueLines}
@@ -20,7 +20,7 @@ use Rattle.format.specs.Replacing.{blockOfCue, cueBlocksFrom, cueBlocks, firstN
 use Rattle.laws.proofs.Tests.{and-left, or-first, or-second, by-test}
 use Rattle.laws.proofs.Lines.{Split, splits}
 use Rattle.laws.proofs.Standing.{bytes-append, bytes-lines}
-use Rattle.laws.proofs.Blocks.{behind}
+use Rattle.laws.proofs.Blocks.{stateAfter}
 use Rattle.laws.proofs.Lists.{succeeded, items-append}
 use Rattle.roundtrip.proofs.Cues.{CueWritable, timing-arrow}
 use Rattle.roundtrip.proofs.Files.{cue-read, ids-contents, cue-blocks}
@@ -67,9 +67,9 @@ module _ (seen : Bool) (b : List Line) (bs : List (List Line)) where
   unfolding cueBlocksFrom blockOfCue itemsFrom listed succeeded
   cue-here c = record { earlier = []; block = b; later = bs; is = refl; found = rw (c .is); count = refl; gives = c }
 
-  cue-behind : (k : ℕ) → CueAt (seen || isCue first) bs k → CueAt seen (b ∷ bs) (length (blockOfCue first b) + k)
+  cue-after : (k : ℕ) → CueAt (seen || isCue first) bs k → CueAt seen (b ∷ bs) (length (blockOfCue first b) + k)
   unfolding cueBlocksFrom itemsFrom listed succeeded
-  cue-behind k h =
+  cue-after k h =
       record {
         earlier = b ∷ h .earlier;
         block = h .block;
@@ -93,7 +93,7 @@ module _ (seen : Bool) (b : List Line) (bs : List (List Line)) where
       (λ y. let c = one-cue b first k (ltb-true k n y) in rw (c .0) (cue-here (c .1)))
       (λ y. let few = ltb-false k n y in
       let e : k ≡ n + (k - n) = omega arith in
-      rw e (cue-behind (k - n) (again (k - n) (omega (arith, cues-into b first (listed (itemsFrom (seen || isCue first) bs)))))))
+      rw e (cue-after (k - n) (again (k - n) (omega (arith, cues-into b first (listed (itemsFrom (seen || isCue first) bs)))))))
 
 cue-at : (seen : Bool) (bs : List (List Line)) (k : ℕ) → k < length (listed (itemsFrom seen bs) .cues) → CueAt seen bs k
 unfolding itemsFrom listed
@@ -157,8 +157,8 @@ unfolding bytesOf
 length-bytes [] = refl
 length-bytes (l ∷ ls) = ap suc (length-bytes ls)
 
--- the lines around the block of a cue: the signature's line, those before the block, the block's own and those behind it; and the blocks
--- before and behind it
+-- the lines around the block of a cue: the signature's line, those before the block, the block's own and those after it; and the blocks
+-- before and after it
 record Around (s : List ℕ) (number : ℕ) : Type 0 where
   title : List ℕ
   xs : List Line
@@ -168,7 +168,7 @@ record Around (s : List ℕ) (number : ℕ) : Type 0 where
   lines : linesAt 0 0 (split s) ≡ record { number = 0; place = 0; bytes = title } ∷ (xs ++ (first ∷ (others ++ ys)))
   block : getD (cueBlocks s) number [] ≡ first ∷ others
   counted : first .number ≡ suc (length xs)
-  begins : stops (behind header xs) first ≡ true
+  begins : stops (stateAfter header xs) first ≡ true
   full : isEmpty (first .bytes) ≡ false
   ends : Stop (inside (first ∷ others)) ys
   divides : blocks s ≡ blocksFrom header xs ++ (first ∷ others) ∷ blocksFrom between ys
@@ -202,17 +202,17 @@ around-of s number t a g =
     }
 
 around : (s : List ℕ) (number : ℕ) → number < length (lists s .cues) → Around s number
-unfolding lists items blocks linesAt behindSignature collected
+unfolding lists items blocks linesAt afterSignature collected
 around s number h =
     let t = splits s in
     let rest = linesAt 1 (0 + suc (length (t .first))) (t .rest) in
     let a = cue-at false (blocks s) number h in
-    let e : blocksFrom header rest ≡ blocks s = sym (ap (λ k. behindSignature (linesAt 0 0 k)) (t .is)) in
+    let e : blocksFrom header rest ≡ blocks s = sym (ap (λ k. afterSignature (linesAt 0 0 k)) (t .is)) in
     around-of s number t a (begun (a .block) (a .later) header rest (a .earlier) (e ∙ a .is) (omega arith))
 
 -- where the block of a cue stands among the lines
 pub record CueBlock (s : List ℕ) (number : ℕ) : Type 0 where
-  pub behind-first : 0 < firstLine s number
+  pub after-first : 0 < firstLine s number
   pub some : 0 < length (getD (cueBlocks s) number [])
   pub inside : firstLine s number + length (getD (cueBlocks s) number []) ≤ length (split s)
 
@@ -224,7 +224,7 @@ module _ (s : List ℕ) (number : ℕ) (a : Around s number) where
   block-length : length (getD (cueBlocks s) number []) ≡ suc (length (a .others))
   block-length = ap length (a .block)
 
-  -- the text's lines: up to the block, the block's and those behind it
+  -- the text's lines: up to the block, the block's and those after it
   abbrev front-lines : List (List ℕ)
   front-lines = a .title ∷ bytesOf (a .xs)
 
@@ -244,8 +244,8 @@ module _ (s : List ℕ) (number : ℕ) (a : Around s number) where
       rw lines-around
       (take-at front-lines (own-lines ++ bytesOf (a .ys)) (firstLine s number) (omega (arith, first-line, length-bytes (a .xs))))
 
-  lines-behind : drop (firstLine s number + length (getD (cueBlocks s) number [])) (split s) ≡ bytesOf (a .ys)
-  lines-behind =
+  lines-after : drop (firstLine s number + length (getD (cueBlocks s) number [])) (split s) ≡ bytesOf (a .ys)
+  lines-after =
       let n = length-append front-lines own-lines in
       let bytes = length-bytes (a .first ∷ a .others) in
       rw (lines-around, ← append-assoc front-lines own-lines (bytesOf (a .ys)))
@@ -263,7 +263,7 @@ pub cue-block-at : (s : List ℕ) (number : ℕ) → number < length (lists s .c
 cue-block-at s number h =
     let a = around s number h in
     record {
-      behind-first = omega (arith, first-line s number a);
+      after-first = omega (arith, first-line s number a);
       some = omega (arith, block-length s number a);
       inside = lines-inside s number a;
     }
@@ -303,7 +303,7 @@ module _ (s : List ℕ) (number : ℕ) (asked : CueContents) (a : Around s numbe
       ++ drop (firstLine s number + length (getD (cueBlocks s) number [])) (split s)
   unfolding bytesOf
   placed-bytes =
-      rw (lines-before s number a, lines-behind s number a, append-assoc (front-lines s number a) (cueLines rs asked) (bytesOf (a .ys)))
+      rw (lines-before s number a, lines-after s number a, append-assoc (front-lines s number a) (cueLines rs asked) (bytesOf (a .ys)))
       (rw (bytes-append (a .xs) (new ++ a .ys), bytes-append new (a .ys), bytes-lines 0 0 (cueLines rs asked)))
 
   -- the line before the block is empty where an identifier is to come
@@ -311,7 +311,7 @@ module _ (s : List ℕ) (number : ℕ) (asked : CueContents) (a : Around s numbe
       hasSignature s ≡ true
       → not (isEmpty (asked .id)) && not (isEmpty (lineBefore s number)) ≡ false
       → isEmpty (asked .id) ≡ false
-      → behind header (a .xs) ≡ between
+      → stateAfter header (a .xs) ≡ between
   unfolding lineBefore bytesOf
   block-gap signed g f =
       let rest = own-lines s number a ++ bytesOf (a .ys) in
@@ -329,12 +329,12 @@ module _ (s : List ℕ) (number : ℕ) (asked : CueContents) (a : Around s numbe
 
   placed-blocks :
       CueWritable rs asked
-      → (isEmpty (asked .id) ≡ false → behind header (a .xs) ≡ between)
-      → behindSignature placed ≡ earlier ++ new ∷ later
-  unfolding behindSignature cueLines
+      → (isEmpty (asked .id) ≡ false → stateAfter header (a .xs) ≡ between)
+      → afterSignature placed ≡ earlier ++ new ∷ later
+  unfolding afterSignature cueLines
   placed-blocks w gap =
       blocks-with header (a .xs) 0 0 (cueLines rs asked) (a .ys) (cue-blocks rs asked w .closed)
-      (written-begins (behind header (a .xs)) (a .first) rs asked (a .ys) (a .begins) (a .full) gap)
+      (written-begins (stateAfter header (a .xs)) (a .first) rs asked (a .ys) (a .begins) (a .full) gap)
       (stops-timed (a .first ∷ a .others) new (a .ys)
       (timed-once 0 0 (linesOf (asked .id)) (writtenTiming rs asked) (linesOf (asked .text)) (timing-arrow rs asked))
       (a .ends))
@@ -343,7 +343,7 @@ module _ (s : List ℕ) (number : ℕ) (asked : CueContents) (a : Around s numbe
   reads :
       (t : List ℕ)
       → bytesOf placed ≡ split t
-      → behindSignature placed ≡ earlier ++ new ∷ later
+      → afterSignature placed ≡ earlier ++ new ∷ later
       → CueWritable rs asked
       → anyOver (items s) ≡ false
       → Reads s t number asked

@@ -18,16 +18,16 @@ use Rattle.format.specs.Contents.{cueOfEntry}
 use Rattle.format.specs.Replacing.{cueBlocks, firstLine, lastLine, ownStart, ownEnd, cueAsked, newCueFails, withRegion, regionNames, newForm, newFile, noGap, unlessTest, replacingIs, replacingText, replacing, replacedRoom, Replaced}
 use Rattle.format.specs.declared.Replacing.{Replacing}
 use Rattle.format.specs.declared.Replacing.the-variants as Replacing
-use Rattle.laws.proofs.Answers.{behind-test, behind-answer, front, file-made, reads-again}
+use Rattle.laws.proofs.Answers.{after-test, after-answer, front, file-made, reads-again}
 use Rattle.replaced.proofs.RawLines.{lines-replaced, signature-first}
 use Rattle.replaced.proofs.CueBlocks.{cue-block-at, lines-read}
 use Rattle.replaced.proofs.Asked.{asked-writable, form-plain, form-begins}
 
 -- a new cue that fails a test is refused
-behind-option : (o : Option ℕ) (n : ℕ) (vs : List ℕ) (a : Answer) → unlessTest o n a ≡ accepted vs → (o ≡ none) × (a ≡ accepted vs)
+after-option : (o : Option ℕ) (n : ℕ) (vs : List ℕ) (a : Answer) → unlessTest o n a ≡ accepted vs → (o ≡ none) × (a ≡ accepted vs)
 unfolding unlessTest
-behind-option none n vs a e = (refl, e)
-behind-option (some test) n vs a e = let z : _≡_ {A = ℕ} 0 1 = cc in absurd (omega arith)
+after-option none n vs a e = (refl, e)
+after-option (some test) n vs a e = let z : _≡_ {A = ℕ} 0 1 = cc in absurd (omega arith)
 
 -- what an accepting answer says of the file and the new cue
 record Accepted (raw : List ℕ) (number : ℕ) (t w : List ℕ) (out : ℕ) (vs : List ℕ) : Type 0 where
@@ -46,11 +46,11 @@ unfolding replacing replacingText
 accepts raw number t w scratch out vs e =
     let s = plainText raw in
     let new = newFile raw number t w in
-    let signed = behind-test (not (hasSignature s)) 4 [] vs _ (behind-answer _ _ vs e) in
-    let within = behind-test (anyOver (items s)) 5 [] vs _ (signed .1) in
-    let there = behind-test (not (ltb number (length (lists s .cues)))) 7 (length (lists s .cues) ∷ []) vs _ (within .1) in
-    let writable = behind-option (newCueFails t w (regionNames s)) number vs _ (there .1) in
-    let gap = behind-test (noGap s number t w) 9 [] vs _ (writable .1) in
+    let signed = after-test (not (hasSignature s)) 4 [] vs _ (after-answer _ _ vs e) in
+    let within = after-test (anyOver (items s)) 5 [] vs _ (signed .1) in
+    let there = after-test (not (ltb number (length (lists s .cues)))) 7 (length (lists s .cues) ∷ []) vs _ (within .1) in
+    let writable = after-option (newCueFails t w (regionNames s)) number vs _ (there .1) in
+    let gap = after-test (noGap s number t w) 9 [] vs _ (writable .1) in
     record {
       signature = not-false (hasSignature s) (signed .0);
       within = within .0;
@@ -79,13 +79,13 @@ replaced raw number t w scratch out vs e =
     let c = length (getD (cueBlocks s) number []) in
     let block = cue-block-at s number (ok .there) in
     let form = form-begins s t w (ok .writable) in
-    let raws = lines-replaced raw (newForm s t w) n c (block .behind-first) (block .some) (block .inside) (form-plain s t w (ok .writable)) (form .some) (form .fresh) in
+    let raws = lines-replaced raw (newForm s t w) n c (block .after-first) (block .some) (block .inside) (form-plain s t w (ok .writable)) (form .some) (form .fresh) in
     let lines = raws .lines ∙ ap (λ ls. take n (split s) ++ ls ++ drop (n + c) (split s)) (form .lines) in
     let read =
     lines-read s (plainText new) number (cueAsked t w (regionNames s)) (ok .signature) (ok .there) (ok .within) (asked-writable s t w (ok .writable)) (ok .gap) lines in
     let others = append-assoc (take n (split s)) _ (drop (n + c) (split s)) in
     let first : getD (split (plainText new)) 0 [] ≡ getD (split s) 0 [] =
-    ap (λ ls. getD ls 0 []) (lines ∙ others) ∙ first-kept n (split s) _ (block .behind-first) (omega (arith, block .inside, block .some)) in
+    ap (λ ls. getD ls 0 []) (lines ∙ others) ∙ first-kept n (split s) _ (block .after-first) (omega (arith, block .inside, block .some)) in
     record {
       starts = raws .starts;
       ends = raws .ends;

@@ -7,7 +7,7 @@ use mathlib.Core.Option.{Option, none, some}
 use lib.Dec.{eqb}
 use lib.ListN.{getD}
 use Rattle.format.specs.Bytes.{ascii, colon, white}
-use Rattle.format.specs.Texts.{Part, nowhere, all, behindFirst}
+use Rattle.format.specs.Texts.{Part, emptyPart, all, afterFirst}
 use Rattle.format.specs.Tokens.{inToken, onToken, beforeTokens, tokens, valueOf}
 use Rattle.format.specs.RegionSettings.{RegionValues, takenRegion, openingRegion, regionSettings}
 use Rattle.format.specs.TimingLines.{Timing, timingLine}
@@ -35,17 +35,17 @@ dark-tokens p (b ∷ x) =
     (λ y. rw y rest)
     (λ n. let e : black b ≡ true = rw n refl in rw n (either (All Dark) (inToken x) (dark-on p b (tokens (suc p) x) e rest) (rw n, rest)))
 
-dark-behind : (c : ℕ) (x : List ℕ) → all black x ≡ true → all black (behindFirst c x) ≡ true
-unfolding all behindFirst
-dark-behind c [] h = refl
-dark-behind c (b ∷ x) h =
+dark-after : (c : ℕ) (x : List ℕ) → all black x ≡ true → all black (afterFirst c x) ≡ true
+unfolding all afterFirst
+dark-after c [] h = refl
+dark-after c (b ∷ x) h =
     let rest = and-right (black b) (all black x) h in
-    either (λ r. all black r ≡ true) (eqb b c) {a = x} {b = behindFirst c x} rest (dark-behind c x rest)
+    either (λ r. all black r ≡ true) (eqb b c) {a = x} {b = afterFirst c x} rest (dark-after c x rest)
 
 dark-values : (ts : List Part) → All Dark ts → All (λ t. Dark (valueOf t)) ts
 unfolding valueOf
 dark-values [] h = tt
-dark-values (t ∷ ts) h = (dark-behind colon (t .bytes) (h .0), dark-values ts (h .1))
+dark-values (t ∷ ts) h = (dark-after colon (t .bytes) (h .0), dark-values ts (h .1))
 
 dark-region : (p : Part) → Dark (regionSettings p .region .id)
 unfolding regionSettings OfRegion all
@@ -68,9 +68,9 @@ dark-cue id ls (some t) = tt
 dark-meaning : (seen : Bool) (b : List Line) → DarkItem (meaning seen b)
 unfolding meaning definition regionOf
 dark-meaning seen [] = tt
-dark-meaning seen (first ∷ []) = either DarkItem (holdsArrow (first .bytes)) (dark-cue nowhere [] (timingLine (linePart first))) tt
+dark-meaning seen (first ∷ []) = either DarkItem (holdsArrow (first .bytes)) (dark-cue emptyPart [] (timingLine (linePart first))) tt
 dark-meaning seen (first ∷ (second ∷ ls)) =
-    either DarkItem (holdsArrow (first .bytes)) (dark-cue nowhere (second ∷ ls) (timingLine (linePart first)))
+    either DarkItem (holdsArrow (first .bytes)) (dark-cue emptyPart (second ∷ ls) (timingLine (linePart first)))
     (either DarkItem (holdsArrow (second .bytes)) (dark-cue (linePart first) ls (timingLine (linePart second)))
     (either DarkItem seen tt
     (either DarkItem (isWord (ascii "STYLE") (first .bytes)) tt

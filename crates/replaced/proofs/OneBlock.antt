@@ -1,4 +1,4 @@
--- One block among the others: the lines before it, its own and those behind it, and another block in its place.
+-- One block among the others: the lines before it, its own and those after it, and another block in its place.
 use Prim.Native.Nat.{ℕ, suc, _+_, _≤_}
 use mathlib.Core.Path.{_≡_, refl, sym, ap, ap₂, _∙_}
 use mathlib.Core.Bool.{true, false, not, _&&_, true≢false, false≢true}
@@ -13,7 +13,7 @@ use Rattle.format.specs.Contents.{CueContents, RegionContents}
 use Rattle.format.specs.Writable.{noneEmpty}
 use Rattle.format.specs.Written.{writtenTiming, linesOf, cueLines}
 use Rattle.laws.proofs.Tests.{by-test, and-left, and-right, or-true}
-use Rattle.laws.proofs.Blocks.{behind, cut}
+use Rattle.laws.proofs.Blocks.{stateAfter, cut}
 use Rattle.roundtrip.proofs.Shape.{not-left, Closed, closed-block, timed}
 use Rattle.roundtrip.proofs.Cues.{timing-arrow}
 
@@ -23,12 +23,12 @@ Stop st [] = Unit
 Stop st (l ∷ ls) = stops st l ≡ true
 
 -- a file divides there
-cut-at : (st : Collecting) (xs ys : List Line) → Stop (behind st xs) ys → blocksFrom st (xs ++ ys) ≡ blocksFrom st xs ++ blocksFrom between ys
+cut-at : (st : Collecting) (xs ys : List Line) → Stop (stateAfter st xs) ys → blocksFrom st (xs ++ ys) ≡ blocksFrom st xs ++ blocksFrom between ys
 unfolding blocksFrom collected
 cut-at st xs [] h = rw (append-nil xs, append-nil (blocksFrom st xs))
 cut-at st xs (l ∷ ys) h = cut st xs l ys h
 
--- the block of which the lines acc have been collected, its other lines and those behind it
+-- the block of which the lines acc have been collected, its other lines and those after it
 pub record Rest (acc ls b : List Line) (after : List (List Line)) : Type 0 where
   pub more : List Line
   pub ys : List Line
@@ -65,12 +65,12 @@ pub record Begun (st : Collecting) (ls : List Line) (before : List (List Line)) 
   pub first : Line
   pub others : List Line
   pub lines : ls ≡ xs ++ first ∷ others
-  pub begins : stops (behind st xs) first ≡ true
+  pub begins : stops (stateAfter st xs) first ≡ true
   pub full : isEmpty (first .bytes) ≡ false
   pub earlier : blocksFrom st xs ≡ before
   pub rest : Rest (first ∷ []) others b after
 
--- where collecting stands behind an empty line, and behind a line that begins a block
+-- where collecting stands after an empty line, and after a line that begins a block
 next-empty : (st : Collecting) (l : Line) → isEmpty (l .bytes) ≡ true → next st l ≡ between
 unfolding next stops begin
 next-empty between l e = rw e
@@ -98,7 +98,7 @@ one-open between = omega arith
 one-open header = omega arith
 one-open (inside ls) = omega arith
 
--- of two ways to divide a list, the one further behind
+-- of two ways to divide a list, the one further after
 record Front {A : Type 0} (a c p q : List A) : Type 0 where
   more : List A
   is : p ≡ a ++ more
@@ -117,7 +117,7 @@ module _ (b : List Line) (after : List (List Line)) where
       (st : Collecting) (l : Line) (ls : List Line) (before : List (List Line))
       → Begun (next st l) ls before b after
       → Begun st (l ∷ ls) (ended st l ++ before) b after
-  unfolding behind blocksFrom
+  unfolding stateAfter blocksFrom
   begun-next st l ls before h =
       record {
         xs = l ∷ h .xs;
@@ -136,7 +136,7 @@ module _ (b : List Line) (after : List (List Line)) where
       → isEmpty (l .bytes) ≡ false
       → blocksFrom (inside (l ∷ [])) ls ≡ b ∷ after
       → Begun st (l ∷ ls) (ended st l ++ []) b after
-  unfolding behind blocksFrom ended
+  unfolding stateAfter blocksFrom ended
   begun-here st l ls y f e =
       record {
         xs = [];
@@ -217,13 +217,13 @@ unfolding stops
 stop-between [] = tt
 stop-between (l ∷ ls) = refl
 
--- behind an empty line collecting stands between two blocks
+-- after an empty line collecting stands between two blocks
 pub gap-before :
     (st : Collecting) (l : List ℕ) (xs : List Line) (rest : List (List ℕ))
     → (isEmpty l ≡ true → st ≡ between)
     → isEmpty (getD (l ∷ (bytesOf xs ++ rest)) (length xs) []) ≡ true
-    → behind st xs ≡ between
-unfolding behind bytesOf
+    → stateAfter st xs ≡ between
+unfolding stateAfter bytesOf
 gap-before st l [] rest h e = h e
 gap-before st l (x ∷ xs) rest h e = gap-before (next st x) (x .bytes) xs rest (next-empty st x) e
 
@@ -248,9 +248,9 @@ written-begins st l rs c ys e f h =
     (λ y. rw y (stops-arrow st l (record { number = 0; place = 0; bytes = writtenTiming rs c }) f (timing-arrow rs c) e))
     (λ n. rw (h n) (stop-between (linesAt 0 0 (cueLines rs c) ++ ys)))
 
--- where lines are one block, collecting stands inside it behind them
-inside-whole : (acc ls : List Line) → blocksFrom (inside acc) ls ≡ (acc ++ ls) ∷ [] → behind (inside acc) ls ≡ inside (acc ++ ls)
-unfolding blocksFrom behind collected ended next goOn
+-- where lines are one block, collecting stands inside it after them
+inside-whole : (acc ls : List Line) → blocksFrom (inside acc) ls ≡ (acc ++ ls) ∷ [] → stateAfter (inside acc) ls ≡ inside (acc ++ ls)
+unfolding blocksFrom stateAfter collected ended next goOn
 inside-whole acc [] e = rw (append-nil acc)
 inside-whole acc (l ∷ ls) e =
     by-test (stops (inside acc) l)
@@ -261,24 +261,24 @@ inside-whole acc (l ∷ ls) e =
     rw n (rw (append-snoc acc l ls) at (inside-whole (acc ++ l ∷ []) ls (rw (append-snoc acc l ls) f))))
 
 -- so it is for lines that are one block by themselves
-closed-behind : (n p : ℕ) (b : List (List ℕ)) → Closed b → behind between (linesAt n p b) ≡ inside (linesAt n p b)
-unfolding linesAt noneEmpty timed behind blocksFrom ended stops collected
-closed-behind n p [] c = absurd (false≢true (c .once))
-closed-behind n p (l ∷ ls) c =
+closed-after : (n p : ℕ) (b : List (List ℕ)) → Closed b → stateAfter between (linesAt n p b) ≡ inside (linesAt n p b)
+unfolding linesAt noneEmpty timed stateAfter blocksFrom ended stops collected
+closed-after n p [] c = absurd (false≢true (c .once))
+closed-after n p (l ∷ ls) c =
     let at : Line = record { number = n; place = p; bytes = l } in
     let rest = linesAt (suc n) (p + suc (length l)) ls in
     let begun = next-full between at refl (not-left (isEmpty l) (noneEmpty ls) (c .full)) in
-    ap (λ st. behind st rest) begun
+    ap (λ st. stateAfter st rest) begun
     ∙ inside-whole (at ∷ []) rest (sym (ap (λ st. blocksFrom st rest) begun) ∙ closed-block n p (l ∷ ls) c)
 
 -- such lines between others
 pub blocks-with :
     (st : Collecting) (xs : List Line) (n p : ℕ) (w : List (List ℕ)) (ys : List Line)
     → Closed w
-    → Stop (behind st xs) (linesAt n p w ++ ys)
+    → Stop (stateAfter st xs) (linesAt n p w ++ ys)
     → Stop (inside (linesAt n p w)) ys
     → blocksFrom st (xs ++ (linesAt n p w ++ ys)) ≡ blocksFrom st xs ++ linesAt n p w ∷ blocksFrom between ys
 blocks-with st xs n p w ys c begins ends =
     cut-at st xs (linesAt n p w ++ ys) begins
     ∙ ap (λ r. blocksFrom st xs ++ r)
-    (cut-at between (linesAt n p w) ys (rw (closed-behind n p w c) ends) ∙ ap (λ r. r ++ blocksFrom between ys) (closed-block n p w c))
+    (cut-at between (linesAt n p w) ys (rw (closed-after n p w c) ends) ∙ ap (λ r. r ++ blocksFrom between ys) (closed-block n p w c))

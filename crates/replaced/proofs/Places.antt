@@ -6,7 +6,7 @@ use mathlib.Core.List.{List, [], _∷_, map, map-append}
 use Rattle.format.specs.Texts.{isEmpty}
 use Rattle.format.specs.Lines.{split}
 use Rattle.format.specs.Blocks.{Line, linesAt, Collecting, between, header, inside, canTime, stops, begin, goOn, collected, ended, next}
-use Rattle.format.specs.Blocks.{blocksFrom, behindSignature, blocks, bytesOf}
+use Rattle.format.specs.Blocks.{blocksFrom, afterSignature, blocks, bytesOf}
 use Rattle.format.specs.Lists.{itemsFrom, items, listed, lists, anyOver}
 use Rattle.format.specs.Contents.{contents}
 use Rattle.laws.proofs.Tests.{by-test}
@@ -63,8 +63,8 @@ blocks-bare st [] = collected-bare st
 blocks-bare st (l ∷ ls) =
     rw (map-append unplaced (ended st l) (blocksFrom (next st l) ls), ended-bare st l, next-bare st l, blocks-bare (next st l) ls)
 
-signature-bare : (ls : List Line) → behindSignature (unplaced ls) ≡ map unplaced (behindSignature ls)
-unfolding behindSignature bareState
+signature-bare : (ls : List Line) → afterSignature (unplaced ls) ≡ map unplaced (afterSignature ls)
+unfolding afterSignature bareState
 signature-bare [] = refl
 signature-bare (l ∷ ls) = blocks-bare header ls
 
@@ -80,24 +80,24 @@ unplaced-same (k ∷ ks) (l ∷ ls) e =
 
 -- lines with any numbers and places, in the place of a text's own
 module _ (s : List ℕ) (ls : List Line) (e : bytesOf ls ≡ split s) where
-  blocks-placed : map unplaced (blocks s) ≡ map unplaced (behindSignature ls)
+  blocks-placed : map unplaced (blocks s) ≡ map unplaced (afterSignature ls)
   unfolding blocks
   blocks-placed =
       let own = linesAt 0 0 (split s) in
       sym (signature-bare own)
-      ∙ ap behindSignature (unplaced-same own ls (bytes-lines 0 0 (split s) ∙ sym e))
+      ∙ ap afterSignature (unplaced-same own ls (bytes-lines 0 0 (split s) ∙ sym e))
       ∙ signature-bare ls
 
-  pub contents-placed : contents (lists s) ≡ contents (listed (itemsFrom false (behindSignature ls)))
+  pub contents-placed : contents (lists s) ≡ contents (listed (itemsFrom false (afterSignature ls)))
   unfolding lists items
   contents-placed =
       sym (contents-unplaced false (blocks s))
       ∙ ap (λ bs. contents (listed (itemsFrom false bs))) blocks-placed
-      ∙ contents-unplaced false (behindSignature ls)
+      ∙ contents-unplaced false (afterSignature ls)
 
-  pub over-placed : anyOver (items s) ≡ anyOver (itemsFrom false (behindSignature ls))
+  pub over-placed : anyOver (items s) ≡ anyOver (itemsFrom false (afterSignature ls))
   unfolding items
   over-placed =
       sym (over-unplaced false (blocks s))
       ∙ ap (λ bs. anyOver (itemsFrom false bs)) blocks-placed
-      ∙ over-unplaced false (behindSignature ls)
+      ∙ over-unplaced false (afterSignature ls)

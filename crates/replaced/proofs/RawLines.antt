@@ -12,7 +12,7 @@ use borrow.Author.Tests.{eqb-true, eqb-false, not-true}
 use Rattle.format.specs.Bytes.{ascii, lf, cr, byteOrderMark}
 use Rattle.format.specs.Texts.{startsWith, isEmpty}
 use Rattle.format.specs.Plain.{dropBom, newlines, repair, plainText, Plain}
-use Rattle.format.specs.Lines.{split, endedLines, join}
+use Rattle.format.specs.Lines.{split, afterLineEnds, join}
 use Rattle.format.specs.Blocks.{seventh, hasSignature}
 use Rattle.format.specs.Replacing.{RawLine, emptyLine, onRawLine, onEnding, beforeLines, rawLines, rawBytes, rawStart, rawEnd}
 use Rattle.laws.proofs.Tests.{and-left, and-right, by-test, absent}
@@ -166,7 +166,7 @@ dropBom-line s w =
     (λ y. rw y (record { no-lf = absent-drop lf 3 s (w .no-lf); no-cr = absent-drop cr 3 s (w .no-cr) }))
     (λ n. rw n w)
 
--- the plain line that comes of a raw line behind the first, and the lines of the plain text of a file that has these lines
+-- the plain line that comes of a raw line after the first, and the lines of the plain text of a file that has these lines
 abbrev lineOf : RawLine → List ℕ
 lineOf l = repair (l .bytes)
 
@@ -195,7 +195,7 @@ map-drop f zero xs = refl
 map-drop f (suc n) [] = refl
 map-drop f (suc n) (x ∷ xs) = map-drop f n xs
 
--- all lines but the first n, and the first n with others behind them
+-- all lines but the first n, and the first n with others after them
 plainLines-back : (n : ℕ) (ls : List RawLine) → 0 < n → map lineOf (drop n ls) ≡ drop n (plainLines ls)
 unfolding plainLines
 plainLines-back zero ls p = absurd (omega arith)
@@ -226,7 +226,7 @@ bytes-ended e s [] = refl
 bytes-ended e s (t ∷ ts) = ap (λ r. repair s ∷ r) (bytes-ended e t ts)
 
 raw-ended : (e s : List ℕ) (ts : List (List ℕ)) (ls : List RawLine) → rawBytes (endedBy e s ts ++ ls) ≡ join (s ∷ ts) ++ (e ++ rawBytes ls)
-unfolding endedBy rawBytes join endedLines
+unfolding endedBy rawBytes join afterLineEnds
 raw-ended e s [] ls = rw (append-nil s) (append-assoc s e (rawBytes ls))
 raw-ended e s (t ∷ ts) ls = rw (raw-ended e t ts ls) (simp append-assoc)
 
@@ -253,7 +253,7 @@ begins-same [] t (by-cr n) = refl
 begins-same [] t by-both = refl
 begins-same (b ∷ a) t e = refl
 
--- lines put behind the first n
+-- lines put after the first n
 module _ (ms : List RawLine) (begins : startsWith (lf ∷ []) (rawBytes ms) ≡ false) where
   front-begins :
       (n : ℕ) {ls : List RawLine}
@@ -282,15 +282,15 @@ unfolding rawBytes
 raw-append [] ms = refl
 raw-append (l ∷ ls) ms = rw (raw-append ls ms) (sym (append-assoc (l .bytes ++ l .ending) (rawBytes ls) (rawBytes ms)))
 
--- a raw file's line m, the bytes up to the end of it, its own line end left out, and those behind them
+-- a raw file's line m, the bytes up to the end of it, its own line end left out, and those after them
 abbrev lineAt : List ℕ → ℕ → RawLine
 lineAt raw m = getD (rawLines raw) m (emptyLine [])
 
 abbrev upTo : List ℕ → ℕ → List ℕ
 upTo raw m = rawBytes (take m (rawLines raw)) ++ lineAt raw m .bytes
 
-abbrev behind : List ℕ → ℕ → List ℕ
-behind raw m = lineAt raw m .ending ++ rawBytes (drop (suc m) (rawLines raw))
+abbrev beyond : List ℕ → ℕ → List ℕ
+beyond raw m = lineAt raw m .ending ++ rawBytes (drop (suc m) (rawLines raw))
 
 -- a file cut where line n starts, and where line m ends
 module _ (raw : List ℕ) where
@@ -313,17 +313,17 @@ module _ (raw : List ℕ) where
   length-upTo m = length-append (rawBytes (take m (rawLines raw))) (lineAt raw m .bytes)
 
   module _ (m : ℕ) (h : m < length (rawLines raw)) where
-    around-end : upTo raw m ++ behind raw m ≡ raw
+    around-end : upTo raw m ++ beyond raw m ≡ raw
     unfolding rawBytes
     around-end =
         simp append-assoc
         (simp (drop-cons (rawLines raw) m (emptyLine []) h, append-assoc) at (around-start m))
 
-    drop-end : drop (rawEnd raw m) raw ≡ behind raw m
-    drop-end = ap (drop (rawEnd raw m)) (sym around-end) ∙ drop-at (upTo raw m) (behind raw m) (rawEnd raw m) (length-upTo m)
+    drop-end : drop (rawEnd raw m) raw ≡ beyond raw m
+    drop-end = ap (drop (rawEnd raw m)) (sym around-end) ∙ drop-at (upTo raw m) (beyond raw m) (rawEnd raw m) (length-upTo m)
 
     end-within : rawEnd raw m ≤ length raw
-    end-within = omega (arith, length-upTo m, length-append (upTo raw m) (behind raw m), ap length around-end)
+    end-within = omega (arith, length-upTo m, length-append (upTo raw m) (beyond raw m), ap length around-end)
 
 -- lines without LF and CR
 lines-all : (ls : List (List ℕ)) → unbroken ls ≡ true → All (λ l. absent cr l ≡ true) ls → All Line ls
@@ -343,18 +343,18 @@ form-lines form e plain =
     let f = splits form in
     bytes-ended e (f .first) (f .rest) ∙ ap (map repair) (sym (f .is)) ∙ sym (split-repair form) ∙ ap split (plain-repair form plain)
 
--- the lines of a text, the last ended as line m is, and the lines behind line m
+-- the lines of a text, the last ended as line m is, and the lines after line m
 abbrev newLines : List ℕ → List ℕ → ℕ → List RawLine
 newLines raw form m = endedBy (lineAt raw m .ending) (splits form .first) (splits form .rest) ++ drop (suc m) (rawLines raw)
 
 module _ (raw form : List ℕ) (m : ℕ) where
-  new-bytes : rawBytes (newLines raw form m) ≡ form ++ behind raw m
+  new-bytes : rawBytes (newLines raw form m) ≡ form ++ beyond raw m
   new-bytes =
       let f = splits form in
-      raw-ended (lineAt raw m .ending) (f .first) (f .rest) (drop (suc m) (rawLines raw)) ∙ ap (λ r. r ++ behind raw m) (f .joined)
+      raw-ended (lineAt raw m .ending) (f .first) (f .rest) (drop (suc m) (rawLines raw)) ∙ ap (λ r. r ++ beyond raw m) (f .joined)
 
   new-begins : isEmpty form ≡ false → startsWith (lf ∷ []) (rawBytes (newLines raw form m)) ≡ startsWith (lf ∷ []) form
-  new-begins full = ap (startsWith (lf ∷ [])) new-bytes ∙ begins-more form (behind raw m) full
+  new-begins full = ap (startsWith (lf ∷ [])) new-bytes ∙ begins-more form (beyond raw m) full
 
   module _ (h : m < length (rawLines raw)) (plain : Plain form) where
     new-shaped : Shaped (newLines raw form m)
@@ -420,7 +420,7 @@ lines-replaced raw form n c some more fits plain full begins =
       lines = rw e at (file-lines raw form m inside plain n some (omega arith) (new-begins raw form m full ∙ begins));
     }
 
--- nothing behind a first LF bears on the signature
+-- nothing after a first LF bears on the signature
 seventh-line : (s t : List ℕ) → seventh (s ++ lf ∷ t) ≡ seventh s
 unfolding seventh
 seventh-line [] t = refl
@@ -435,9 +435,9 @@ signature-line s t =
     (λ n. rw n))
 
 signature-join : (l : List ℕ) (ls : List (List ℕ)) → hasSignature (join (l ∷ ls)) ≡ hasSignature l
-unfolding join endedLines
+unfolding join afterLineEnds
 signature-join l [] = ap hasSignature (append-nil l)
-signature-join l (k ∷ ks) = signature-line l (k ++ endedLines ks)
+signature-join l (k ∷ ks) = signature-line l (k ++ afterLineEnds ks)
 
 signature-split : (s : List ℕ) → hasSignature s ≡ hasSignature (getD (split s) 0 [])
 signature-split s =

@@ -8,7 +8,7 @@ ghost use Rattle.requests.specs.declared.fields.Decimal.the-variants as 
 // The greatest number of twelve digits, without its last digit.
 const MAX_BEFORE_LAST: u64 = 99_999_999_999;
 
-// Where a byte stands first, from a place on; behind the text where it does not.
+// Where a byte stands first, from a place on; after the text where it does not.
 pub fn place_of(s: &[u8], b: u8, from: usize) -> usize
     ensures from { λ r. ⌜ from ≤ r ⌝ }
     ensures before { λ r. ⌜ ((k : ℕ) → k < r → from ≤ k → getD (now (s .entry)) k 0 ≡ b → ⊥) ⌝ }
@@ -47,8 +47,8 @@ pub fn field_at(line: &[u8], from: usize) -> Span {
     }
 }
 
-// The field behind the tab that ends another one; behind the last field there is an empty one.
-pub fn field_behind(line: &[u8], field: Span) -> Span {
+// The field after the tab that ends another one; after the last field there is an empty one.
+pub fn field_after(line: &[u8], field: Span) -> Span {
     let tab = field.to;
     if line.len() <= tab {
         return Span { from: tab, to: tab };

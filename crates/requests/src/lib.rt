@@ -5,8 +5,8 @@ mod fields;
 use fields::Decimal;
 use fields::Unescaped;
 use fields::count_of;
+use fields::field_after;
 use fields::field_at;
-use fields::field_behind;
 use fields::read_decimal;
 use fields::unescape;
 use format::rows::CueEntry;
@@ -42,12 +42,12 @@ struct FieldPlaces {
 
 fn fields_of(line: &[u8]) -> FieldPlaces {
     let word = field_at(line, 0);
-    let number = field_behind(line, word);
-    let start = field_behind(line, number);
-    let end = field_behind(line, start);
-    let id = field_behind(line, end);
-    let settings = field_behind(line, id);
-    let text = field_behind(line, settings);
+    let number = field_after(line, word);
+    let start = field_after(line, number);
+    let end = field_after(line, start);
+    let id = field_after(line, end);
+    let settings = field_after(line, id);
+    let text = field_after(line, settings);
     FieldPlaces {
         word,
         number,

@@ -1,4 +1,4 @@
--- Laws of one answer behind another: a refusal to read is the answer, and where lists were read, their rows stand at the tables' starts.
+-- Laws of one answer after another: a refusal to read is the answer, and where lists were read, their rows stand at the tables' starts.
 use Prim.Native.Nat.{ℕ, min}
 use mathlib.Core.Path.{_≡_, refl, sym, ap, _∙_}
 use mathlib.Core.Bool.{not, _||_}
@@ -9,7 +9,7 @@ use lib.Dec.{ltb}
 use lib.ListN.{length, take, length-map}
 use lib.Seq.{length-take-le}
 use borrow.Author.Tests.{ltb-false}
-use Rattle.laws.proofs.Answers.{behind-test, front}
+use Rattle.laws.proofs.Answers.{after-test, front}
 use Rattle.laws.proofs.Rows.{rows-say}
 use types.Run.{OneOf}
 use denote.Enum.Declared.{tagOf}
@@ -30,7 +30,7 @@ use Rattle.format.specs.declared.Reading.{Reading}
 use Rattle.format.specs.declared.Reading.the-variants as Reading
 use Rattle.format.specs.declared.Rewriting.the-variants as Rewriting
 
--- behind a refusal to read nothing is done
+-- after a refusal to read nothing is done
 module _ (next : Answer) (file out : List ℕ) where
   pub record Stops (r : Reading) (n : ℕ) : Type 0 where
     pub answer : rewritingIs (Rewriting.Refused n) ≡ numberOnly (andThen (readingIs r) next)
@@ -55,12 +55,12 @@ counted : (s : List ℕ) (cues regions styles : ℕ) (vs : List ℕ) → accepte
 unfolding reading
 counted s cues regions styles vs e =
     let l = lists s in
-    let size = behind-test (ltb maxText (length s)) 1 [] vs _ (sym e) in
-    let plain = behind-test (ltb (firstNotPlain s) (length s)) 3 (firstNotPlain s ∷ []) vs _ (size .1) in
-    let signed = behind-test (not (hasSignature s)) 4 [] vs _ (plain .1) in
-    let within = behind-test (anyOver (items s)) 5 [] vs _ (signed .1) in
+    let size = after-test (ltb maxText (length s)) 1 [] vs _ (sym e) in
+    let plain = after-test (ltb (firstNotPlain s) (length s)) 3 (firstNotPlain s ∷ []) vs _ (size .1) in
+    let signed = after-test (not (hasSignature s)) 4 [] vs _ (plain .1) in
+    let within = after-test (anyOver (items s)) 5 [] vs _ (signed .1) in
     let short = ltb cues (length (l .cues)) || ltb regions (length (l .regions)) || ltb styles (length (l .styles)) in
-    same-values vs (counts l) (sym (behind-test short 6 (counts l) vs _ (within .1) .1))
+    same-values vs (counts l) (sym (after-test short 6 (counts l) vs _ (within .1) .1))
 
 -- the first rows of a table, cut where it ends
 pub first : {A : Type 0} (n k : ℕ) (l : List A) → k ≡ min n (length l) → take n l ≡ take k l
@@ -69,7 +69,7 @@ first n k l e = rw e (take-min n l)
 pub first-length : {A : Type 0} (n k : ℕ) (l : List A) → k ≡ min n (length l) → k ≡ length (take k l)
 first-length n k l e = sym (length-take-le k l (omega arith))
 
--- behind lists' counts each table starts with its list's rows
+-- after lists' counts each table starts with its list's rows
 pub record Starts (s : List ℕ) (c r t : ℕ) (us ws zs : List (List ℕ)) : Type 0 where
   pub cues : take c us ≡ cueRows (lists s .regions) (lists s .cues)
   pub regions : take r ws ≡ regionRows (lists s .regions)
@@ -102,5 +102,5 @@ pub file-is :
     → rewrittenFile s ≡ fileOf s (styleRows (lists s .styles)) (regionRows (lists s .regions)) (cueRows (lists s .regions) (lists s .cues))
 unfolding reading rewrittenFile fileOf storedContents
 file-is s cues regions styles vs e =
-    let size = behind-test (ltb maxText (length s)) 1 [] vs _ (sym e) in
+    let size = after-test (ltb maxText (length s)) 1 [] vs _ (sym e) in
     ap written (sym (rows-say s (ltb-false maxText (length s) (size .0))))

@@ -10,9 +10,9 @@ use lib.Dec.{eqb, leb, ltb}
 use lib.ListN.{length, getD}
 use borrow.Author.Tests.{ne-eqb, eqb-true, eq-eqb, ltb-true, leb-true, le-ltb, not-true}
 use Rattle.format.specs.Bytes.{ascii, white, lf, percent, comma, hyphen, fullStop, colon, digit}
-use Rattle.format.specs.Texts.{Part, nowhere, isEmpty, same, all, run, endsWith, startsWith, pastRun, beforeFirst, has, bytesAt}
+use Rattle.format.specs.Texts.{Part, emptyPart, isEmpty, same, all, run, endsWith, startsWith, pastRun, beforeFirst, has, bytesAt}
 use Rattle.format.specs.CueSettings.{CueSettings, Taken, taken, openingSettings, setRegion, direction, setVertical, setLine}
-use Rattle.format.specs.CueSettings.{lineAlign, linePercentage, lineCounted, lineSetting, setPosition, positionAlign, positionOf}
+use Rattle.format.specs.CueSettings.{lineAlign, linePercentage, lineCounted, lineSetting, setPosition, positionAlign, positionGiven}
 use Rattle.format.specs.CueSettings.{positionSetting, setSize, sizeOf, setAlign, alignment, named, cueSetting, settingsFrom, cueSettings}
 use Rattle.format.specs.Written.{lastDigits, decimalIn, writtenTime, withoutZeros, fraction, writtenDecimal, writtenPercentage, setting}
 use Rattle.format.specs.Written.{writtenVertical, writtenLineAlign, writtenLineNumber, writtenLine, writtenPositionAlign, writtenPosition}
@@ -49,7 +49,7 @@ use Rattle.roundtrip.proofs.Numbers.{all-append, some-append, run-over,
 use Rattle.roundtrip.proofs.Numbers.{percentage-read, line-read, numeral, writtenTime-numeral, writtenDecimal-numeral}
 use Rattle.roundtrip.proofs.Numbers.{writtenPercentage-numeral, numeral-absent, numeral-unwhite, writtenTime-some, writtenDecimal-some}
 use Rattle.roundtrip.proofs.Numbers.{writtenPercentage-some, numeral-unskipped}
-use Rattle.roundtrip.proofs.Shape.{not-left, isToken, tokens-afterSpaces, behind-first, setting-name, setting-value, partsAt, parts-append}
+use Rattle.roundtrip.proofs.Shape.{not-left, isToken, tokens-afterSpaces, after-first, setting-name, setting-value, partsAt, parts-append}
 use Rattle.roundtrip.proofs.Shape.{black-line, absent-has, none-fails}
 
 -- a text without a byte
@@ -95,10 +95,10 @@ has-none : (c : ℕ) (s : List ℕ) → absent c s ≡ true → has c s ≡ fals
 unfolding has
 has-none c s a = rw (all-absent c s a)
 
-has-behind : (c : ℕ) (s t : List ℕ) → has c (s ++ c ∷ t) ≡ true
+has-after : (c : ℕ) (s t : List ℕ) → has c (s ++ c ∷ t) ≡ true
 unfolding has all
-has-behind c [] t = rw (eq-eqb c c refl)
-has-behind c (b ∷ s) t = by-test (eqb b c) (λ y. rw y) (λ n. rw n (has-behind c s t))
+has-after c [] t = rw (eq-eqb c c refl)
+has-after c (b ∷ s) t = by-test (eqb b c) (λ y. rw y) (λ n. rw n (has-after c s t))
 
 -- a line's number and a percentage: no comma, some bytes, no whitespace, and `%` at the end of a percentage alone
 percentage-absent : (m : ℕ) → absent comma (writtenPercentage m) ≡ true
@@ -128,7 +128,7 @@ unfolding writtenLineNumber writtenPercentage digit
 line-ends true negative m = ends-absent percent _ (number-absent percent negative m refl refl refl)
 line-ends false negative m = endsWith-snoc percent (writtenDecimal m)
 
--- the alignments behind them
+-- the alignments after them
 line-before : (s : List ℕ) (a : LineAlign) → absent comma s ≡ true → beforeFirst comma (s ++ writtenLineAlign a) ≡ s
 unfolding writtenLineAlign beforeFirst run
 line-before s LineAlign.Start h = before-tail comma s _ h refl
@@ -142,8 +142,8 @@ line-align :
     → lineAlign (s ++ writtenLineAlign a) old ≡ some a
 unfolding writtenLineAlign lineAlign same
 line-align s LineAlign.Start old h o = rw (append-nil s, has-none comma s h, o refl)
-line-align s LineAlign.Center old h o = rw (has-behind comma s (ascii "center"), behind-first comma (ascii "center") s h)
-line-align s LineAlign.End old h o = rw (has-behind comma s (ascii "end"), behind-first comma (ascii "end") s h)
+line-align s LineAlign.Center old h o = rw (has-after comma s (ascii "center"), after-first comma (ascii "center") s h)
+line-align s LineAlign.End old h o = rw (has-after comma s (ascii "end"), after-first comma (ascii "end") s h)
 
 position-before : (s : List ℕ) (a : PositionAlign) → absent comma s ≡ true → beforeFirst comma (s ++ writtenPositionAlign a) ≡ s
 unfolding writtenPositionAlign beforeFirst run
@@ -159,9 +159,9 @@ position-align :
     → positionAlign (s ++ writtenPositionAlign a) old ≡ some a
 unfolding writtenPositionAlign positionAlign same
 position-align s PositionAlign.Auto old h o = rw (append-nil s, has-none comma s h, o refl)
-position-align s PositionAlign.LineLeft old h o = rw (has-behind comma s (ascii "line-left"), behind-first comma (ascii "line-left") s h)
-position-align s PositionAlign.Center old h o = rw (has-behind comma s (ascii "center"), behind-first comma (ascii "center") s h)
-position-align s PositionAlign.LineRight old h o = rw (has-behind comma s (ascii "line-right"), behind-first comma (ascii "line-right") s h)
+position-align s PositionAlign.LineLeft old h o = rw (has-after comma s (ascii "line-left"), after-first comma (ascii "line-left") s h)
+position-align s PositionAlign.Center old h o = rw (has-after comma s (ascii "center"), after-first comma (ascii "center") s h)
+position-align s PositionAlign.LineRight old h o = rw (has-after comma s (ascii "line-right"), after-first comma (ascii "line-right") s h)
 
 -- a token with a name and a value
 abbrev pub settingAt : ℕ → List ℕ → List ℕ → Part
@@ -230,7 +230,7 @@ module _ (p : ℕ) (c : CueSettings) where
       → (a ≡ PositionAlign.Auto → c .position .align ≡ PositionAlign.Auto)
       → cueSetting (settingAt p (ascii "position") (writtenPercentage m ++ writtenPositionAlign a)) c
       ≡ taken (setPosition (record { position = Position.At m; align = a }) c)
-  unfolding absent isEmpty named same positionSetting positionOf
+  unfolding absent isEmpty named same positionSetting positionGiven
   position-read m a h o =
       let s = writtenPercentage m in
       let x = s ++ writtenPositionAlign a in
@@ -407,7 +407,7 @@ pub record Settable (rs : List RegionContents) (c : CueContents) : Type 0 where
 
 -- settings with no region
 abbrev soFar : Direction → LinePlace → PositionPlace → ℕ → Align → CueSettings
-soFar v l q n a = record { vertical = v; line = l; position = q; size = n; align = a; region = nowhere }
+soFar v l q n a = record { vertical = v; line = l; position = q; size = n; align = a; region = emptyPart }
 
 sets-vertical :
     (d : Direction) (l : LinePlace) (q : PositionPlace) (n : ℕ) (a : Align)
@@ -473,7 +473,7 @@ pub record SettingsRead (rs : List RegionContents) (c : CueContents) (s : Taken)
   pub place : ℕ
   pub is : s ≡ taken (settingsOf rs c place)
 
--- a region comes last: nothing behind it clears it
+-- a region comes last: nothing after it clears it
 regionPlace : Option ℕ → ℕ → ℕ
 regionPlace none p = 0
 regionPlace (some i) p = p + 7
@@ -567,10 +567,10 @@ spaces-line (t ∷ ts) h =
     let line = black-line t (and-right (not (isEmpty t)) (all black t) (h .0)) in
     absent-append lf t (afterSpaces ts) line (spaces-line ts (h .1))
 
-arrow-behind : (s t : List ℕ) → holdsArrow t ≡ true → holdsArrow (s ++ t) ≡ true
+arrow-after : (s t : List ℕ) → holdsArrow t ≡ true → holdsArrow (s ++ t) ≡ true
 unfolding holdsArrow
-arrow-behind [] t e = e
-arrow-behind (b ∷ s) t e = rw (arrow-behind s t e) (or-true (startsWith (ascii "-->") (b ∷ (s ++ t))))
+arrow-after [] t e = e
+arrow-after (b ∷ s) t e = rw (arrow-after s t e) (or-true (startsWith (ascii "-->") (b ∷ (s ++ t))))
 
 module _ (rs : List RegionContents) (c : CueContents) where
   abbrev settingsText : List ℕ
@@ -584,7 +584,7 @@ module _ (rs : List RegionContents) (c : CueContents) where
 
   pub timing-arrow : holdsArrow (writtenTiming rs c) ≡ true
   unfolding holdsArrow startsWith
-  timing-arrow = rw timing-is (arrow-behind (writtenTime (c .start)) (fromArrow (c .start) (c .end) settingsText) refl)
+  timing-arrow = rw timing-is (arrow-after (writtenTime (c .start)) (fromArrow (c .start) (c .end) settingsText) refl)
 
   pub timing-line : Settable rs c → absent lf (writtenTiming rs c) ≡ true
   unfolding absent

@@ -46,7 +46,7 @@ unfolding isEmpty
 some-append [] t e = absurd (true≢false e)
 some-append (b ∷ s) t e = refl
 
--- a run of bytes that pass a test, and another text behind it
+-- a run of bytes that pass a test, and another text after it
 pub run-over : (p : ℕ → Bool) (s t : List ℕ) → all p s ≡ true → run p t ≡ [] → run p (s ++ t) ≡ s
 unfolding all run
 run-over p [] t f e = e
@@ -65,7 +65,7 @@ unfolding all pastRun
 pastRun-over p [] t f e = pastRun-none p t e
 pastRun-over p (b ∷ s) t f e = rw (and-left (p b) (all p s) f, pastRun-over p s t (and-right (p b) (all p s) f) e)
 
--- a text and one byte behind it
+-- a text and one byte after it
 pub endsWith-snoc : (c : ℕ) (s : List ℕ) → endsWith c (s ++ c ∷ []) ≡ true
 unfolding endsWith
 endsWith-snoc c [] = eq-eqb c c refl
@@ -256,7 +256,7 @@ fields-read first m s n rest d f hm hs hn e =
     rw (front, f, past, field-read colon 2 m third (omega arith) refl, front, three-read first m s fourth (omega arith) refl)
     (last-read (record { hours = number first; minutes = m; seconds = s; thousandths = 0 }) n rest hm hs hn e)
 
--- a time, and what does not begin with a digit behind it
+-- a time, and what does not begin with a digit after it
 pub record TimeRead (ms : ℕ) (rest : List ℕ) : Type 0 where
   pub time : Time
   pub read : timestamp (writtenTime ms ++ rest) ≡ got time rest

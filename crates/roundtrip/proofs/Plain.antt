@@ -10,7 +10,7 @@ use lib.ListN.{length, getD, take, drop, length-append, take-append-drop}
 use borrow.Author.Tests.{ltb-true, ltb-false, eqb-false, not-true}
 use Rattle.format.specs.Bytes.{ascii, digit, nul, cr, lf, space, comma, hyphen, colon}
 use Rattle.format.specs.Texts.{isEmpty, all, bytesAt}
-use Rattle.format.specs.Lines.{onFirst, before, split, endedLines, join}
+use Rattle.format.specs.Lines.{onFirst, before, split, afterLineEnds, join}
 use Rattle.format.specs.Plain.{sequence, repair, plainStart, plainFrom, firstNotPlain, Plain}
 use Rattle.format.specs.Contents.{CueContents, RegionContents, Contents, contentsOfRows, cueOfEntry, regionOfEntry, styleOfEntry, cueOfRow, regionOfRow, styleOfRow}
 use Rattle.format.specs.Rows.{cueCodesNamed, regionCodesNamed, cueEntry, regionEntry, styleEntry}
@@ -347,15 +347,15 @@ unfolding apart
 plain-apart [] h = tt
 plain-apart (b ∷ bs) h = (plain-none, Standing.all-append Plain b (apart bs) (h .0) (plain-apart bs (h .1)))
 
-plain-ended : (ls : List (List ℕ)) → All Plain ls → Plain (endedLines ls)
-unfolding endedLines plainByte
+plain-ended : (ls : List (List ℕ)) → All Plain ls → Plain (afterLineEnds ls)
+unfolding afterLineEnds plainByte
 plain-ended [] h = plain-none
-plain-ended (l ∷ ls) h = plain-cons lf (l ++ endedLines ls) refl (plain-append l (endedLines ls) (h .0) (plain-ended ls (h .1)))
+plain-ended (l ∷ ls) h = plain-cons lf (l ++ afterLineEnds ls) refl (plain-append l (afterLineEnds ls) (h .0) (plain-ended ls (h .1)))
 
 pub plain-join : (ls : List (List ℕ)) → All Plain ls → Plain (join ls)
 unfolding join
 plain-join [] h = plain-none
-plain-join (l ∷ ls) h = plain-append l (endedLines ls) (h .0) (plain-ended ls (h .1))
+plain-join (l ∷ ls) h = plain-append l (afterLineEnds ls) (h .0) (plain-ended ls (h .1))
 
 plain-lineEnded : (ls : List (List ℕ)) → All Plain ls → Plain (lineEnded ls)
 unfolding lineEnded plainByte

@@ -11,7 +11,7 @@ use lib.ListN.{length, length-append}
 use borrow.Author.Tests.{leb-true, le-ltb, lt-ltb, not-true}
 use Rattle.format.specs.Bytes.{ascii, digit, white, hyphen, comma, colon}
 use Rattle.format.specs.Limits.{maxLine}
-use Rattle.format.specs.Texts.{Part, nowhere, startsWith, same, isEmpty, all, has, bytesAt}
+use Rattle.format.specs.Texts.{Part, emptyPart, startsWith, same, isEmpty, all, has, bytesAt}
 use Rattle.format.specs.Lines.{join}
 use Rattle.format.specs.Blocks.{linesAt, holdsArrow}
 use Rattle.format.specs.RegionSettings.{RegionValues, openingRegion, TakenRegion, takenRegion, setId, setWidth, setLines, pointOf, point}
@@ -28,7 +28,7 @@ use Rattle.laws.proofs.Tokens.{inside as black, first-at}
 use Rattle.laws.proofs.Standing.{All}
 use Rattle.roundtrip.proofs.Numbers.{all-append, some-append, decimal-some, percentage-read, count-read, numeral, decimalIn-numeral}
 use Rattle.roundtrip.proofs.Numbers.{writtenPercentage-numeral, writtenPercentage-some, numeral-absent, numeral-unwhite}
-use Rattle.roundtrip.proofs.Shape.{isToken, not-left, empty-is, before-first, behind-first, setting-name, setting-value, partsAt, tokens-join}
+use Rattle.roundtrip.proofs.Shape.{isToken, not-left, empty-is, before-first, after-first, setting-name, setting-value, partsAt, tokens-join}
 use Rattle.roundtrip.proofs.Shape.{noArrow, quiet-tokens, Block, region-block, region-means, none-fails}
 
 -- the name of a setting: some bytes, no whitespace, no colon and no hyphen
@@ -63,15 +63,15 @@ unfolding isEmpty all white absent
 scroll-name = record { full = refl; dark = refl; whole = refl; plain = refl }
 
 -- no arrow begins in bytes without a hyphen
-pub arrow-behind : (x y : List ℕ) → absent hyphen x ≡ true → holdsArrow (x ++ y) ≡ holdsArrow y
+pub arrow-after : (x y : List ℕ) → absent hyphen x ≡ true → holdsArrow (x ++ y) ≡ holdsArrow y
 unfolding holdsArrow startsWith absent
-arrow-behind [] y a = refl
-arrow-behind (b ∷ x) y a =
-    rw (not-left (eqb b hyphen) (absent hyphen x) a) (arrow-behind x y (and-right (not (eqb b hyphen)) (absent hyphen x) a))
+arrow-after [] y a = refl
+arrow-after (b ∷ x) y a =
+    rw (not-left (eqb b hyphen) (absent hyphen x) a) (arrow-after x y (and-right (not (eqb b hyphen)) (absent hyphen x) a))
 
 pub no-arrow : (x : List ℕ) → absent hyphen x ≡ true → holdsArrow x ≡ false
 unfolding holdsArrow
-no-arrow x a = ap holdsArrow (sym (append-nil x)) ∙ arrow-behind x [] a
+no-arrow x a = ap holdsArrow (sym (append-nil x)) ∙ arrow-after x [] a
 
 -- a line that is one token and holds no `-->`
 pub record Word (l : List ℕ) : Type 0 where
@@ -83,7 +83,7 @@ unfolding isToken all white holdsArrow startsWith
 setting-word name value n d a =
     record {
       token = rw (some-append name (colon ∷ value) (n .full)) (all-append black name (colon ∷ value) (n .dark) d);
-      quiet = arrow-behind name (colon ∷ value) (n .plain) ∙ a;
+      quiet = arrow-after name (colon ∷ value) (n .plain) ∙ a;
     }
 
 -- values without whitespace and hyphens
@@ -154,7 +154,7 @@ point-read p h =
     let both = x ++ comma ∷ y in
     let more : length x < length both = omega (arith, length-append x (comma ∷ y)) in
     let found : has comma both ≡ true = first-at comma both ∙ rw front (lt-ltb (length x) (length both) more) in
-    rw (found, front, behind-first comma y x a, percentage-read (p .x) (h .x), percentage-read (p .y) (h .y))
+    rw (found, front, after-first comma y x a, percentage-read (p .x) (h .x), percentage-read (p .y) (h .y))
 
 -- one token: its name and its value are taken
 module _ (p : ℕ) (r : RegionValues) where
@@ -226,7 +226,7 @@ pub record Regional (c : RegionContents) : Type 0 where
   pub anchor : Percents (c .anchor)
   pub viewport : Percents (c .viewport)
 
--- the lines behind `REGION`: the identifier's, if any, and the others
+-- the lines after `REGION`: the identifier's, if any, and the others
 unfoldable pub laterLines : RegionContents → List (List ℕ)
 laterLines c =
     (ascii "width" ++ colon ∷ writtenPercentage (c .width))
@@ -329,7 +329,7 @@ from-opening : (p : ℕ) (c : RegionContents) → Regional c → RegionRead c (r
 unfolding setId
 from-opening p c h =
     by-test (isEmpty (c .id))
-    (λ y. rw (id-none (c .id) y, later-read p nowhere c h) (region-is c nowhere (empty-is (c .id) y)))
+    (λ y. rw (id-none (c .id) y, later-read p emptyPart c h) (region-is c emptyPart (empty-is (c .id) y)))
     (λ n. let id : Part = record { place = p + 3; bytes = c .id } in
     rw (id-one (c .id) n, line-taken p _ (laterLines c) openingRegion _ (id-read p openingRegion (c .id) n), later-read _ id c h)
     (region-is c id refl))

@@ -10,11 +10,11 @@ use lib.Dec.{eqb}
 use lib.ListN.{length, length-append}
 use borrow.Author.Tests.{eqb-true, eq-eqb, not-true}
 use Rattle.format.specs.Bytes.{ascii, white, lf, space, colon}
-use Rattle.format.specs.Texts.{Part, nowhere, startsWith, isEmpty, all, run, has, beforeFirst, behindFirst}
-use Rattle.format.specs.Lines.{split, endedLines, join}
+use Rattle.format.specs.Texts.{Part, emptyPart, startsWith, isEmpty, all, run, has, beforeFirst, afterFirst}
+use Rattle.format.specs.Lines.{split, afterLineEnds, join}
 use Rattle.format.specs.Tokens.{inToken, onToken, beforeTokens, tokens, nameOf, valueOf}
 use Rattle.format.specs.Blocks.{Line, hasSignature, seventh, linesAt, linePart, holdsArrow, Collecting, between, header, inside, canTime, stops, begin, goOn}
-use Rattle.format.specs.Blocks.{collected, ended, next, blocksFrom, behindSignature, blocks, bytesOf, joined}
+use Rattle.format.specs.Blocks.{collected, ended, next, blocksFrom, afterSignature, blocks, bytesOf, joined}
 use Rattle.format.specs.TimingLines.{timingLine}
 use Rattle.format.specs.RegionSettings.{regionSettings}
 use Rattle.format.specs.Lists.{Item, style, cueOf, regionOf, isWord, definition, meaning}
@@ -23,14 +23,14 @@ use Rattle.format.specs.Writable.{unbroken as unbrokenText, noneEmpty, firstFai
 use Rattle.laws.proofs.Tests.{and-left, and-right, and-both, and-false, or-first, or-second, by-test, absent}
 use Rattle.laws.proofs.Tokens.{inside as black}
 use Rattle.laws.proofs.Lines.{unbroken, split-line, split-last, splits}
-use Rattle.laws.proofs.Blocks.{behind, blocks-stop, cut}
+use Rattle.laws.proofs.Blocks.{stateAfter, blocks-stop, cut}
 use Rattle.laws.proofs.Standing.{All, bytes-lines}
 
 -- the first of two tests, where it is a refusal
 pub not-left : (a b : Bool) → not a && b ≡ true → a ≡ false
 not-left a b e = not-true a (and-left (not a) b e)
 
--- lines ended by LF, and the empty line behind the last of them
+-- lines ended by LF, and the empty line after the last of them
 pub split-lineEnded : (ls : List (List ℕ)) → unbroken ls ≡ true → split (lineEnded ls) ≡ ls ++ [] ∷ []
 unfolding split lineEnded unbroken
 split-lineEnded [] a = refl
@@ -52,7 +52,7 @@ tokens-longer :
 unfolding tokens beforeTokens onToken
 tokens-longer p b s t ts n i e = rw (n, i, e)
 
--- a token at the start, where none goes on behind it
+-- a token at the start, where none goes on after it
 module _ (s : List ℕ) (o : inToken s ≡ false) where
   tokens-word :
       (p b : ℕ) (t : List ℕ)
@@ -125,8 +125,8 @@ unfolding afterSpaces after
 after-spaces [] = refl
 after-spaces (t ∷ ts) = ap (λ r. space ∷ (t ++ r)) (after-spaces ts)
 
-after-lines : (ls : List (List ℕ)) → endedLines ls ≡ after lf ls
-unfolding endedLines after
+after-lines : (ls : List (List ℕ)) → afterLineEnds ls ≡ after lf ls
+unfolding afterLineEnds after
 after-lines [] = refl
 after-lines (l ∷ ls) = ap (λ r. lf ∷ (l ++ r)) (after-lines ls)
 
@@ -156,11 +156,11 @@ module _ (c : ℕ) (value : List ℕ) where
       rw (not-left (eqb b c) (absent c name) a)
       (ap (λ r. b ∷ r) (before-first name (and-right (not (eqb b c)) (absent c name) a)))
 
-  pub behind-first : (name : List ℕ) → absent c name ≡ true → behindFirst c (name ++ c ∷ value) ≡ value
-  unfolding behindFirst absent
-  behind-first [] a = rw (eq-eqb c c refl)
-  behind-first (b ∷ name) a =
-      rw (not-left (eqb b c) (absent c name) a) (behind-first name (and-right (not (eqb b c)) (absent c name) a))
+  pub after-first : (name : List ℕ) → absent c name ≡ true → afterFirst c (name ++ c ∷ value) ≡ value
+  unfolding afterFirst absent
+  after-first [] a = rw (eq-eqb c c refl)
+  after-first (b ∷ name) a =
+      rw (not-left (eqb b c) (absent c name) a) (after-first name (and-right (not (eqb b c)) (absent c name) a))
 
 module _ (t : Part) (name value : List ℕ) (a : absent colon name ≡ true) (e : t .bytes ≡ name ++ colon ∷ value) where
   pub setting-name : nameOf t ≡ name
@@ -169,7 +169,7 @@ module _ (t : Part) (name value : List ℕ) (a : absent colon name ≡ true) (e 
 
   pub setting-value : valueOf t ≡ record { place = t .place + suc (length name); bytes = value }
   unfolding valueOf
-  setting-value = rw (setting-name, e, behind-first colon value name a)
+  setting-value = rw (setting-name, e, after-first colon value name a)
 
 -- no line holds `-->`
 unfoldable pub noArrow : List (List ℕ) → Bool
@@ -206,7 +206,7 @@ second-line : (first l : Line) → isEmpty (l .bytes) ≡ false → holdsArrow (
 unfolding stops canTime
 second-line first l e a = rw (e, a) (and-false (holdsArrow (l .bytes)) false refl)
 
--- lines behind a block's begin that hold no `-->`
+-- lines after a block's begin that hold no `-->`
 quiet-lines :
     (b : List Line) (k p : ℕ) (ls : List (List ℕ))
     → noneEmpty ls ≡ true
@@ -280,14 +280,14 @@ lines-append k p (l ∷ a) b =
     let m : k + suc (length a) ≡ suc k + length a = omega arith in
     rw (e, m) (ap (λ r. record { number = k; place = p; bytes = l } ∷ r) (lines-append (suc k) (p + suc (length l)) a b))
 
--- lines behind a block that begin with an empty one
+-- lines after a block that begin with an empty one
 module _ (b : List (List ℕ)) (c : Closed b) (k p : ℕ) where
   closed-before :
       (l : Line) (ls : List Line)
       → isEmpty (l .bytes) ≡ true
       → blocksFrom between (linesAt k p b ++ l ∷ ls) ≡ linesAt k p b ∷ blocksFrom between (l ∷ ls)
   closed-before l ls e =
-      cut between (linesAt k p b) l ls (stops-empty (behind between (linesAt k p b)) l e)
+      cut between (linesAt k p b) l ls (stops-empty (stateAfter between (linesAt k p b)) l e)
       ∙ ap (λ r. r ++ blocksFrom between (l ∷ ls)) (closed-block k p b c)
 
   closed-apart :
@@ -351,10 +351,10 @@ unfolding unbroken absent
 signature-unbroken ls h = h
 
 pub blocks-file : (bs : List (List (List ℕ))) → All Block bs → map bytesOf (blocks (fileOf bs)) ≡ bs
-unfolding blocks behindSignature linesAt
+unfolding blocks afterSignature linesAt
 blocks-file bs h =
     let lines = split-lineEnded (ascii "WEBVTT" ∷ apart bs) (signature-unbroken (apart bs) (unbroken-apart bs h)) in
-    ap (λ ls. map bytesOf (behindSignature (linesAt 0 0 ls))) lines
+    ap (λ ls. map bytesOf (afterSignature (linesAt 0 0 ls))) lines
     ∙ blocks-header 1 7 bs (all-closed bs h)
 
 pub signature-file : (bs : List (List (List ℕ))) → hasSignature (fileOf bs) ≡ true
@@ -410,10 +410,10 @@ arrow-back [] s e = e
 arrow-back (b ∷ l) s e = arrow-back l s (or-second (startsWith (ascii "-->") (b ∷ (l ++ s))) (holdsArrow (l ++ s)) e)
 
 no-arrow-join : (l : List ℕ) (ls : List (List ℕ)) → holdsArrow (join (l ∷ ls)) ≡ false → noArrow (l ∷ ls) ≡ true
-unfolding join endedLines noArrow
+unfolding join afterLineEnds noArrow
 no-arrow-join l [] e = rw (arrow-front l [] e)
 no-arrow-join l (m ∷ ms) e =
-    let rest = m ++ endedLines ms in
+    let rest = m ++ afterLineEnds ms in
     rw (arrow-front l (lf ∷ rest) e) (no-arrow-join m ms (arrow-back (lf ∷ []) rest (arrow-back l (lf ∷ rest) e)))
 
 pub quiet-split : (text : List ℕ) → unbrokenText text ≡ true → Quiet (split text)
@@ -533,7 +533,7 @@ joined-linesOf k p text =
 timing-first :
     (seen : Bool) (l : Line) (ls : List Line)
     → holdsArrow (l .bytes) ≡ true
-    → meaning seen (l ∷ ls) ≡ cueOf nowhere ls (timingLine (linePart l))
+    → meaning seen (l ∷ ls) ≡ cueOf emptyPart ls (timingLine (linePart l))
 unfolding meaning
 timing-first seen l [] a = rw a
 timing-first seen l (m ∷ ms) a = rw a
@@ -578,7 +578,7 @@ cue-means seen k p id t text w a b =
     (λ y. let line : Line = record { number = k; place = p; bytes = t } in
     let q = p + suc (length t) in
     rw (lines-none id y)
-    (found (suc k) q nowhere (linePart line) (empty-is id y) refl (timing-first seen line (linesAt (suc k) q (linesOf text)) b)))
+    (found (suc k) q emptyPart (linePart line) (empty-is id y) refl (timing-first seen line (linesAt (suc k) q (linesOf text)) b)))
     (λ n. let name : Line = record { number = k; place = p; bytes = id } in
     let line : Line = record { number = suc k; place = p + suc (length id); bytes = t } in
     let q = p + suc (length id) + suc (length t) in

@@ -1,4 +1,4 @@
--- Laws of settings: one behind its space, its value put apart from its name, and settings behind others.
+-- Laws of settings: one after its space, its value put apart from its name, and settings after others.
 use Prim.Native.Nat.{ℕ}
 use mathlib.Core.Path.{_≡_, refl, ap}
 use mathlib.Core.List.{List, [], _∷_, _++_, append-assoc, append-nil}

@@ -1,10 +1,10 @@
--- The alignment behind a comma: what its name means for a line and for a position is what `format` says of each.
+-- The alignment after a comma: what its name means for a line and for a position is what `format` says of each.
 use Prim.Native.Nat.{ℕ}
 use mathlib.Core.Path.{_≡_}
 use mathlib.Core.Bool.{false}
 use mathlib.Core.List.{List}
 use Rattle.format.specs.Bytes.{ascii, comma}
-use Rattle.format.specs.Texts.{same, has, behindFirst}
+use Rattle.format.specs.Texts.{same, has, afterFirst}
 use Rattle.format.specs.CueSettings.{lineAlign, positionAlign}
 use Rattle.format.specs.declared.settings.LineAlign.{LineAlign}
 use Rattle.format.specs.declared.settings.PositionAlign.{PositionAlign}
@@ -46,7 +46,7 @@ pub line-named : (x : List ℕ) (a : LineAlign) → lineNamed (alignNameIs x) a 
 unfolding lineAlign same
 line-named x a =
     by-test (has comma x)
-    (λ h. by-word (behindFirst comma x)
+    (λ h. by-word (afterFirst comma x)
     (λ e. rw (h, e))
     (λ e. rw (h, e))
     (λ e. rw (h, e))
@@ -59,7 +59,7 @@ pub position-named : (x : List ℕ) (a : PositionAlign) → positionNamed (align
 unfolding positionAlign same
 position-named x a =
     by-test (has comma x)
-    (λ h. by-word (behindFirst comma x)
+    (λ h. by-word (afterFirst comma x)
     (λ e. rw (h, e))
     (λ e. rw (h, e))
     (λ e. rw (h, e))

@@ -4,7 +4,7 @@ use mathlib.Core.Bool.{cond}
 use mathlib.Core.List.{List}
 use mathlib.Core.Option.{Option, none, some}
 use Rattle.format.specs.Bytes.{ascii, comma}
-use Rattle.format.specs.Texts.{same, behindFirst, has}
+use Rattle.format.specs.Texts.{same, afterFirst, has}
 use Rattle.format.specs.declared.settings.LineAlign.{LineAlign}
 use Rattle.format.specs.declared.settings.LineAlign.the-variants as LineAlign
 use Rattle.format.specs.declared.settings.PositionAlign.{PositionAlign}
@@ -35,7 +35,7 @@ alignWordIs n =
     (cond (same n (ascii "line-left")) AlignName.LineLeft (cond (same n (ascii "line-right")) AlignName.LineRight AlignName.Other))))
 
 abbrev pub alignNameIs : List ℕ → AlignName
-alignNameIs x = cond (has comma x) (alignWordIs (behindFirst comma x)) AlignName.Absent
+alignNameIs x = cond (has comma x) (alignWordIs (afterFirst comma x)) AlignName.Absent
 
 -- what a name means for a line and for a position, a being the alignment that is set
 abbrev pub lineNamed : AlignName → LineAlign → LineAligned

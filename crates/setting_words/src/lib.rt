@@ -3,7 +3,7 @@ use format::settings::Align;
 use format::settings::Direction;
 use format::settings::LineAlign;
 use format::settings::PositionAlign;
-use values::bytes::Kind;
+use values::bytes::ByteKind;
 use values::bytes::same_bytes;
 ghost use mathlib.Core.Path.{_≡_};
 ghost use Rattle.format.specs.CueSettings.{direction, alignment, lineAlign, positionAlign};
@@ -113,7 +113,7 @@ fn align_word(name: &[u8]) -> AlignName
 fn align_name(value: &[u8]) -> AlignName
     ensures { λ r. ⌜ r ≡ alignNameIs (now (value .entry)) ⌝ }
 {
-    let comma = values::bytes::past(value, 0, Kind::Until(b','));
+    let comma = values::bytes::past(value, 0, ByteKind::Until(b','));
     if comma == value.len() {
         return AlignName::Absent;
     }

@@ -1,4 +1,4 @@
--- Laws of storing bytes: one text behind another, and what a room holds in the end.
+-- Laws of storing bytes: one text after another, and what a room holds in the end.
 use Prim.Native.Nat.{ℕ, suc, _+_, _≤_}
 use mathlib.Core.Path.{_≡_, refl, sym, ap, _∙_}
 use mathlib.Core.List.{List, [], _∷_, _++_, append-nil, append-assoc}
@@ -29,7 +29,7 @@ pub stored-within :
     (at : ℕ) (x room : List ℕ) → at + length x ≤ length room → stored at x room ≡ take at room ++ x ++ drop (at + length x) room
 stored-within at x room h = stored-sets at x room ∙ sets-eq x room at h
 
--- nothing, one byte, one text behind another, and the same text by another name
+-- nothing, one byte, one text after another, and the same text by another name
 pub stores-none : (at : ℕ) (room : List ℕ) → Stores [] at room at room
 unfolding stored
 stores-none at room = record { place = omega arith; holds = refl }

@@ -18,8 +18,8 @@ use Rattle.tokenizer.specs.Decoding.{added, holding, decodedFrom, decoded}
 use Rattle.tokenizer.specs.Tags.{atStop, splitStops, classesOf}
 use Rattle.laws.proofs.Tests.{by-test, and-false}
 use Rattle.laws.proofs.Runs.{same-is}
-use Rattle.strings.specs.Stores.{such, one}
-use Rattle.strings.specs.Turns.{heldBehind, word, left}
+use Rattle.strings.specs.Stores.{separates, one}
+use Rattle.strings.specs.Turns.{heldAfter, word, left}
 
 -- what a byte adds to held bytes
 pub added-mark : (held : List ℕ) (c : ℕ) → c ≡ ampersand → added held c ≡ held
@@ -124,7 +124,7 @@ pub decoded-length : (s : List ℕ) → length (decoded s) ≤ length s
 unfolding decoded
 decoded-length s = omega (arith, decoded-from-length [] s)
 
--- what is held behind a byte
+-- what is held after a byte
 holding-mark : (held : List ℕ) (c : ℕ) → eqb c ampersand ≡ true → holding held c ≡ c ∷ []
 unfolding holding
 holding-mark [] c e = rw e refl
@@ -170,16 +170,16 @@ unfolding bytesAt
 part-length s from to h l = omega (arith, length-take (to - from) (drop from s), length-drop from s)
 
 module _ (s : List ℕ) (held i : ℕ) (h : held ≤ i) where
-  pub held-within : (c : ℕ) → heldBehind held i c ≤ i + 1
-  unfolding heldBehind
+  pub held-within : (c : ℕ) → heldAfter held i c ≤ i + 1
+  unfolding heldAfter
   held-within c =
       by-test (eqb c ampersand)
       (λ e. rw e (omega arith))
       (λ n. by-test (ltb held i && alphanumeric c) (λ e. rw (n, e) (omega arith)) (λ e. rw (n, e) (omega arith)))
 
   module _ (l : i < length s) where
-    held-mark : (c : ℕ) → eqb c ampersand ≡ true → getD s i 0 ≡ c → bytesAt s (heldBehind held i c) (i + 1) ≡ holding (bytesAt s held i) c
-    unfolding heldBehind
+    held-mark : (c : ℕ) → eqb c ampersand ≡ true → getD s i 0 ≡ c → bytesAt s (heldAfter held i c) (i + 1) ≡ holding (bytesAt s held i) c
+    unfolding heldAfter
     held-mark c e at =
         rw (e, holding-mark (bytesAt s held i) c e)
         (part-next s i i (omega arith) l ∙ rw (part-none s i, at) refl)
@@ -189,8 +189,8 @@ module _ (s : List ℕ) (held i : ℕ) (h : held ≤ i) where
         → eqb c ampersand ≡ false
         → alphanumeric c ≡ true
         → getD s i 0 ≡ c
-        → bytesAt s (heldBehind held i c) (i + 1) ≡ holding (bytesAt s held i) c
-    unfolding heldBehind
+        → bytesAt s (heldAfter held i c) (i + 1) ≡ holding (bytesAt s held i) c
+    unfolding heldAfter
     held-more c n a at =
         let size = part-length s held i h (omega arith) in
         by-test (ltb held i)
@@ -201,33 +201,33 @@ module _ (s : List ℕ) (held i : ℕ) (h : held ≤ i) where
         (c : ℕ)
         → eqb c ampersand ≡ false
         → alphanumeric c ≡ false
-        → bytesAt s (heldBehind held i c) (i + 1) ≡ holding (bytesAt s held i) c
-    unfolding heldBehind
+        → bytesAt s (heldAfter held i c) (i + 1) ≡ holding (bytesAt s held i) c
+    unfolding heldAfter
     held-other c n a =
         rw (n, a, and-false (ltb held i) false refl, holding-other (bytesAt s held i) c n a) (part-none s (i + 1))
 
-    held-next : (c : ℕ) → getD s i 0 ≡ c → bytesAt s (heldBehind held i c) (i + 1) ≡ holding (bytesAt s held i) c
+    held-next : (c : ℕ) → getD s i 0 ≡ c → bytesAt s (heldAfter held i c) (i + 1) ≡ holding (bytesAt s held i) c
     held-next c at =
         by-test (eqb c ampersand)
         (λ e. held-mark c e at)
         (λ n. by-test (alphanumeric c) (λ a. held-more c n a at) (λ a. held-other c n a))
 
-    -- a turn of decoding: what is left behind it, and that what it puts is no longer than what it lets go
+    -- a turn of decoding: what is left after it, and that what it puts is no longer than what it lets go
     pub decode-next :
         decodedFrom (bytesAt s held i) (drop i s)
         ≡ added (bytesAt s held i) (getD s i 0)
-        ++ decodedFrom (bytesAt s (heldBehind held i (getD s i 0)) (i + 1)) (drop (i + 1) s)
+        ++ decodedFrom (bytesAt s (heldAfter held i (getD s i 0)) (i + 1)) (drop (i + 1) s)
     unfolding decodedFrom
     decode-next =
         ap (decodedFrom (bytesAt s held i)) (drop-cons s i 0 l)
         ∙ rw (held-next (getD s i 0) refl, add-one i) refl
 
-    pub decode-room : length (added (bytesAt s held i) (getD s i 0)) + held ≤ heldBehind held i (getD s i 0)
+    pub decode-room : length (added (bytesAt s held i) (getD s i 0)) + held ≤ heldAfter held i (getD s i 0)
     decode-room =
         let c = getD s i 0 in
         let size = part-length s held i h (omega arith) in
         let within = held-within c in
-        let behind = part-length s (heldBehind held i c) (i + 1) within (omega arith) in
+        let beyond = part-length s (heldAfter held i c) (i + 1) within (omega arith) in
         let is = ap length (held-next c refl) in
         omega (arith, added-length (bytesAt s held i) c)
 
@@ -251,24 +251,24 @@ collapsing-length true true one b s = parted-length one s
 collapsing-length true false one b s = omega arith
 collapsing-length false inside one b s = omega arith
 
-collapsed-from-length : (such : ℕ → Bool) (one : ℕ) (inside : Bool) (s : List ℕ) → length (collapsedFrom such one inside s) ≤ length s
+collapsed-from-length : (separates : ℕ → Bool) (one : ℕ) (inside : Bool) (s : List ℕ) → length (collapsedFrom separates one inside s) ≤ length s
 unfolding collapsedFrom collapsing
-collapsed-from-length such one inside [] = omega arith
-collapsed-from-length such one inside (b ∷ s) =
-    let rest = collapsedFrom such one (not (such b)) s in
-    omega (arith, collapsing-length (such b) inside one b rest, collapsed-from-length such one (not (such b)) s)
+collapsed-from-length separates one inside [] = omega arith
+collapsed-from-length separates one inside (b ∷ s) =
+    let rest = collapsedFrom separates one (not (separates b)) s in
+    omega (arith, collapsing-length (separates b) inside one b rest, collapsed-from-length separates one (not (separates b)) s)
 
-pub collapsed-length : (such : ℕ → Bool) (one : ℕ) (s : List ℕ) → length (collapsed such one s) ≤ length s
+pub collapsed-length : (separates : ℕ → Bool) (one : ℕ) (s : List ℕ) → length (collapsed separates one s) ≤ length s
 unfolding collapsed
-collapsed-length such one s = collapsed-from-length such one false s
+collapsed-length separates one s = collapsed-from-length separates one false s
 
 -- a turn of collapsing: at a separator, at another byte, at the end
-module _ (such : ℕ → Bool) (one : ℕ) where
+module _ (separates : ℕ → Bool) (one : ℕ) where
   left-separator :
       (gap inside : Bool) (b : ℕ) (s : List ℕ)
-      → such b ≡ true
+      → separates b ≡ true
       → (gap ≡ true → inside ≡ true)
-      → left such one gap inside (b ∷ s) ≡ left such one inside inside s
+      → left separates one gap inside (b ∷ s) ≡ left separates one inside inside s
   unfolding left collapsedFrom collapsing
   left-separator true true b s e h = rw e refl
   left-separator true false b s e h = absurd (false≢true (h refl))
@@ -277,36 +277,36 @@ module _ (such : ℕ → Bool) (one : ℕ) where
 
   left-word :
       (gap inside : Bool) (b : ℕ) (s : List ℕ)
-      → such b ≡ false
-      → left such one gap inside (b ∷ s) ≡ word gap one b ++ left such one false true s
+      → separates b ≡ false
+      → left separates one gap inside (b ∷ s) ≡ word gap one b ++ left separates one false true s
   unfolding left word parted collapsedFrom collapsing
   left-word true inside b s e = rw e refl
   left-word false inside b s e = rw e refl
 
-  left-nothing : (gap inside : Bool) → left such one gap inside [] ≡ []
+  left-nothing : (gap inside : Bool) → left separates one gap inside [] ≡ []
   unfolding left parted collapsedFrom
   left-nothing true inside = refl
   left-nothing false inside = refl
 
-  pub collapse-start : (at : ℕ) (s : List ℕ) → left such one false (ltb at at) (drop 0 s) ≡ collapsed such one s
+  pub collapse-start : (at : ℕ) (s : List ℕ) → left separates one false (ltb at at) (drop 0 s) ≡ collapsed separates one s
   unfolding left collapsed
   collapse-start at s = rw (le-ltb at at (omega arith)) refl
 
   module _ (s : List ℕ) (i : ℕ) (l : i < length s) (gap inside : Bool) where
     pub collapse-separator :
-        such (getD s i 0) ≡ true
+        separates (getD s i 0) ≡ true
         → (gap ≡ true → inside ≡ true)
-        → left such one gap inside (drop i s) ≡ left such one inside inside (drop (i + 1) s)
+        → left separates one gap inside (drop i s) ≡ left separates one inside inside (drop (i + 1) s)
     collapse-separator e h =
-        ap (left such one gap inside) (drop-cons s i 0 l) ∙ rw (add-one i) (left-separator gap inside (getD s i 0) (drop (suc i) s) e h)
+        ap (left separates one gap inside) (drop-cons s i 0 l) ∙ rw (add-one i) (left-separator gap inside (getD s i 0) (drop (suc i) s) e h)
 
     pub collapse-word :
-        such (getD s i 0) ≡ false
-        → left such one gap inside (drop i s) ≡ word gap one (getD s i 0) ++ left such one false true (drop (i + 1) s)
+        separates (getD s i 0) ≡ false
+        → left separates one gap inside (drop i s) ≡ word gap one (getD s i 0) ++ left separates one false true (drop (i + 1) s)
     collapse-word e =
-        ap (left such one gap inside) (drop-cons s i 0 l) ∙ rw (add-one i) (left-word gap inside (getD s i 0) (drop (suc i) s) e)
+        ap (left separates one gap inside) (drop-cons s i 0 l) ∙ rw (add-one i) (left-word gap inside (getD s i 0) (drop (suc i) s) e)
 
-  pub collapse-end : (s : List ℕ) (i : ℕ) (gap inside : Bool) → length s ≤ i → left such one gap inside (drop i s) ≡ []
+  pub collapse-end : (s : List ℕ) (i : ℕ) (gap inside : Bool) → length s ≤ i → left separates one gap inside (drop i s) ≡ []
   collapse-end s i gap inside l = rw (drop-of-length-le s l) (left-nothing gap inside)
 
 pub word-length : (gap : Bool) (one c : ℕ) → length (word gap one c) ≡ cond gap 1 0 + 1
@@ -330,7 +330,7 @@ first-out b [] = refl
 first-out b (c ∷ cs) = refl
 
 abbrev onStops : Bool → List ℕ → List ℕ
-onStops inside s = collapsedFrom (such true) (one true) inside s
+onStops inside s = collapsedFrom (separates true) (one true) inside s
 
 class-strings : (s : List ℕ) → (classString (splitStops s) ≡ onStops false s) × (firstOut (splitStops s) ≡ onStops true s)
 unfolding splitStops atStop collapsedFrom collapsing firstOut classString parted isEmpty
@@ -344,14 +344,14 @@ class-strings (b ∷ s) =
       rw e (first-out b (splitStops s) ∙ ap (λ t. b ∷ t) (again .1)),
     ))
 
-pub class-string : (s : List ℕ) → classString (splitStops s) ≡ collapsed (such true) (one true) s
+pub class-string : (s : List ℕ) → classString (splitStops s) ≡ collapsed (separates true) (one true) s
 unfolding collapsed
 class-string s = class-strings s .0
 
-pub classes-of : (b : ℕ) (s : List ℕ) → eqb b fullStop ≡ true → classString (classesOf (b ∷ s)) ≡ collapsed (such true) (one true) (b ∷ s)
+pub classes-of : (b : ℕ) (s : List ℕ) → eqb b fullStop ≡ true → classString (classesOf (b ∷ s)) ≡ collapsed (separates true) (one true) (b ∷ s)
 unfolding classesOf collapsed collapsedFrom collapsing
 classes-of b s e = class-strings s .0 ∙ rw e refl
 
-pub classes-of-none : classString (classesOf []) ≡ collapsed (such true) (one true) []
+pub classes-of-none : classString (classesOf []) ≡ collapsed (separates true) (one true) []
 unfolding classesOf classString collapsed collapsedFrom
 classes-of-none = refl

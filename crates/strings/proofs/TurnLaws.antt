@@ -10,8 +10,8 @@ use borrow.Author.Tests.{lt-ltb, ltb-true}
 use Rattle.format.specs.Texts.{bytesAt}
 use Rattle.format.specs.CueText.{collapsed}
 use Rattle.tokenizer.specs.Decoding.{added, decodedFrom, decoded}
-use Rattle.strings.specs.Stores.{Stores, such, one}
-use Rattle.strings.specs.Turns.{heldBehind, word, left}
+use Rattle.strings.specs.Stores.{Stores, separates, one}
+use Rattle.strings.specs.Turns.{heldAfter, word, left}
 use Rattle.strings.proofs.StoreLaws.{Storing, storing-none, storing-next, storing-same, storing-end, storing-last}
 use Rattle.strings.proofs.TextLaws.{
   held-within,
@@ -29,7 +29,7 @@ use Rattle.strings.proofs.TextLaws.{
 -- decoding: what is held is still to be put, and what was put is no longer than what was let go
 pub record Decoding (s : List ℕ) (at : ℕ) (room₀ room : List ℕ) (held i n : ℕ) : Type 0 where
   pub within : i ≤ length s
-  pub behind : held ≤ i
+  pub beyond : held ≤ i
   pub short : n ≤ at + held
   pub storing : Storing (decoded s) (decodedFrom (bytesAt s held i) (drop i s)) at room₀ n room
 
@@ -38,7 +38,7 @@ module _ (s : List ℕ) (at : ℕ) (room₀ : List ℕ) where
   decoding-starts =
       record {
         within = omega arith;
-        behind = omega arith;
+        beyond = omega arith;
         short = omega arith;
         storing = storing-same (storing-none (decoded s) at room₀) (sym (decode-start s));
       }
@@ -47,25 +47,25 @@ module _ (s : List ℕ) (at : ℕ) (room₀ : List ℕ) where
     pub decoding-again :
         i < length s
         → Stores (added (bytesAt s held i) (getD s i 0)) n room m r
-        → Decoding s at room₀ r (heldBehind held i (getD s i 0)) (i + 1) m
+        → Decoding s at room₀ r (heldAfter held i (getD s i 0)) (i + 1) m
     decoding-again l g =
         record {
           within = omega arith;
-          behind = held-within s held i (f .behind) (getD s i 0);
-          short = omega (arith, g .place, f .short, decode-room s held i (f .behind) l);
-          storing = storing-next (f .storing) (decode-next s held i (f .behind) l) g;
+          beyond = held-within s held i (f .beyond) (getD s i 0);
+          short = omega (arith, g .place, f .short, decode-room s held i (f .beyond) l);
+          storing = storing-next (f .storing) (decode-next s held i (f .beyond) l) g;
         }
 
     pub decoding-ends : length s ≤ i → Stores (bytesAt s held (length s)) n room m r → Stores (decoded s) at room₀ m r
     decoding-ends l g = storing-last (storing-same (f .storing) (decode-end s held i (omega arith))) g
 
--- collapsing: a gap stands open only behind a word, and what was put is no longer than what was passed, an open gap's separator counted
+-- collapsing: a gap stands open only after a word, and what was put is no longer than what was passed, an open gap's separator counted
 pub record Collapsing (s : List ℕ) (stops : Bool) (at : ℕ) (room₀ room : List ℕ) (i n : ℕ) (gap : Bool) : Type 0 where
   pub within : i ≤ length s
-  pub behind : at ≤ n
+  pub beyond : at ≤ n
   pub short : n + cond gap 1 0 ≤ at + i
   pub opens : gap ≡ true → at < n
-  pub storing : Storing (collapsed (such stops) (one stops) s) (left (such stops) (one stops) gap (ltb at n) (drop i s)) at room₀ n room
+  pub storing : Storing (collapsed (separates stops) (one stops) s) (left (separates stops) (one stops) gap (ltb at n) (drop i s)) at room₀ n room
 
 at-most-one : (t : Bool) → cond t 1 0 ≤ 1
 at-most-one true = omega arith
@@ -76,39 +76,39 @@ module _ (s : List ℕ) (stops : Bool) (at : ℕ) (room₀ : List ℕ) where
   collapsing-starts =
       record {
         within = omega arith;
-        behind = omega arith;
+        beyond = omega arith;
         short = omega arith;
         opens = λ e. absurd (false≢true e);
-        storing = storing-same (storing-none (collapsed (such stops) (one stops) s) at room₀) (sym (collapse-start (such stops) (one stops) at s));
+        storing = storing-same (storing-none (collapsed (separates stops) (one stops) s) at room₀) (sym (collapse-start (separates stops) (one stops) at s));
       }
 
   module _ (room : List ℕ) (i n : ℕ) (gap : Bool) (f : Collapsing s stops at room₀ room i n gap) where
-    pub separator-passed : i < length s → such stops (getD s i 0) ≡ true → Collapsing s stops at room₀ room (i + 1) n (ltb at n)
+    pub separator-passed : i < length s → separates stops (getD s i 0) ≡ true → Collapsing s stops at room₀ room (i + 1) n (ltb at n)
     separator-passed l e =
         record {
           within = omega arith;
-          behind = f .behind;
+          beyond = f .beyond;
           short = omega (arith, f .short, at-most-one gap, at-most-one (ltb at n));
           opens = ltb-true at n;
-          storing = storing-same (f .storing) (collapse-separator (such stops) (one stops) s i l gap (ltb at n) e (λ g. lt-ltb at n (f .opens g)));
+          storing = storing-same (f .storing) (collapse-separator (separates stops) (one stops) s i l gap (ltb at n) e (λ g. lt-ltb at n (f .opens g)));
         }
 
     pub word-put :
         {r : List ℕ} {m : ℕ}
         → i < length s
-        → such stops (getD s i 0) ≡ false
+        → separates stops (getD s i 0) ≡ false
         → Stores (word gap (one stops) (getD s i 0)) n room m r
         → Collapsing s stops at room₀ r (i + 1) m false
     word-put {r} {m} l e g =
         let more : m ≡ n + (cond gap 1 0 + 1) = rw (sym (word-length gap (one stops) (getD s i 0))) (g .place) in
-        let above : ltb at m ≡ true = lt-ltb at m (omega (arith, f .behind)) in
+        let above : ltb at m ≡ true = lt-ltb at m (omega (arith, f .beyond)) in
         record {
           within = omega arith;
-          behind = omega (arith, f .behind);
+          beyond = omega (arith, f .beyond);
           short = omega (arith, f .short);
           opens = λ t. absurd (false≢true t);
-          storing = rw above (storing-next (f .storing) (collapse-word (such stops) (one stops) s i l gap (ltb at n) e) g);
+          storing = rw above (storing-next (f .storing) (collapse-word (separates stops) (one stops) s i l gap (ltb at n) e) g);
         }
 
-    pub collapsing-ends : length s ≤ i → Stores (collapsed (such stops) (one stops) s) at room₀ n room
-    collapsing-ends l = storing-end (storing-same (f .storing) (collapse-end (such stops) (one stops) s i gap (ltb at n) l))
+    pub collapsing-ends : length s ≤ i → Stores (collapsed (separates stops) (one stops) s) at room₀ n room
+    collapsing-ends l = storing-end (storing-same (f .storing) (collapse-end (separates stops) (one stops) s i gap (ltb at n) l))

@@ -12,15 +12,15 @@ unfoldable pub stored : ℕ → List ℕ → List ℕ → List ℕ
 stored at [] room = room
 stored at (b ∷ x) room = stored (at + 1) x (set room at b)
 
--- these bytes were stored from a place on, and then the place behind them and the room are these
-pub record Stores (x : List ℕ) (at : ℕ) (room : List ℕ) (behind : ℕ) (after : List ℕ) : Type 0 where
-  pub place : behind ≡ at + length x
+-- these bytes were stored from a place on, and then the place after them and the room are these
+pub record Stores (x : List ℕ) (at : ℕ) (room : List ℕ) (beyond : ℕ) (after : List ℕ) : Type 0 where
+  pub place : beyond ≡ at + length x
   pub holds : after ≡ stored at x room
 
 -- the separators that are collapsed, and the one that is left of a run of them: full stops between classes, else ASCII whitespace
-abbrev pub such : Bool → (ℕ → Bool)
-such true = λ b. eqb b fullStop
-such false = white
+abbrev pub separates : Bool → (ℕ → Bool)
+separates true = λ b. eqb b fullStop
+separates false = white
 
 abbrev pub one : Bool → ℕ
 one true = fullStop

@@ -6,14 +6,14 @@ use lib.Dec.{eqb, ltb}
 use Rattle.format.specs.Bytes.{ampersand, alphanumeric}
 use Rattle.format.specs.CueText.{parted, collapsedFrom}
 
--- where the held bytes begin behind the byte at `i`, given where they began before it
-unfoldable pub heldBehind : ℕ → ℕ → ℕ → ℕ
-heldBehind held i c = cond (eqb c ampersand) i (cond (ltb held i && alphanumeric c) held (i + 1))
+-- where the held bytes begin after the byte at `i`, given where they began before it
+unfoldable pub heldAfter : ℕ → ℕ → ℕ → ℕ
+heldAfter held i c = cond (eqb c ampersand) i (cond (ltb held i && alphanumeric c) held (i + 1))
 
--- a byte that is no separator, behind the one separator where a gap stands open
+-- a byte that is no separator, after the one separator where a gap stands open
 unfoldable pub word : Bool → ℕ → ℕ → List ℕ
 word gap one c = cond gap (one ∷ c ∷ []) (c ∷ [])
 
 -- what is still to be put of a text: where a gap stands open, its separator comes first, if anything follows
 unfoldable pub left : (ℕ → Bool) → ℕ → Bool → Bool → List ℕ → List ℕ
-left such one gap inside s = cond gap (parted one (collapsedFrom such one false s)) (collapsedFrom such one inside s)
+left separates one gap inside s = cond gap (parted one (collapsedFrom separates one false s)) (collapsedFrom separates one inside s)

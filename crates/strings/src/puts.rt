@@ -14,8 +14,8 @@ ghost use Rattle.format.specs.Bytes.{alphanumeric};
 ghost use Rattle.format.specs.Limits.{maxText};
 ghost use Rattle.format.specs.CueText.{escaped, collapsed};
 ghost use Rattle.tokenizer.specs.Decoding.{added, decoded};
-ghost use Rattle.strings.specs.Stores.{Stores, such, one};
-ghost use Rattle.strings.specs.Turns.{heldBehind, word};
+ghost use Rattle.strings.specs.Stores.{Stores, separates, one};
+ghost use Rattle.strings.specs.Turns.{heldAfter, word};
 
 // One byte.
 fn put(b: u8, room: &mut [u8], at: usize) -> usize
@@ -60,7 +60,7 @@ fn is_alphanumeric(b: u8) -> bool
     is_between(b'a', b, b'z')
 }
 
-// What held bytes with a semicolon behind them stand for.
+// What held bytes with a semicolon after them stand for.
 fn put_escaped(held: &[u8], room: &mut [u8], at: usize) -> usize
     requires { ⌜ (length (now held) ≤ maxText) × (at ≤ 2 * maxText) ⌝ }
     ensures { λ r. ⌜ Stores (escaped (now (held .entry))) at (now (room .entry)) r (now (room .exit)) ⌝ }
@@ -87,7 +87,7 @@ fn put_escaped(held: &[u8], room: &mut [u8], at: usize) -> usize
     put(b';', room, n)
 }
 
-// What a byte behind held bytes adds.
+// What a byte after held bytes adds.
 fn put_added(held: &[u8], c: u8, room: &mut [u8], at: usize) -> usize
     requires { ⌜ (length (now held) ≤ maxText) × (at ≤ 2 * maxText) ⌝ }
     ensures { λ r. ⌜ Stores (added (now (held .entry)) c) at (now (room .entry)) r (now (room .exit)) ⌝ }
@@ -108,10 +108,10 @@ fn put_added(held: &[u8], c: u8, room: &mut [u8], at: usize) -> usize
     put(c, room, n)
 }
 
-// Where the held bytes begin behind the byte at `i`.
-fn held_behind(held: usize, i: usize, c: u8) -> usize
+// Where the held bytes begin after the byte at `i`.
+fn held_after(held: usize, i: usize, c: u8) -> usize
     requires { ⌜ i ≤ maxText ⌝ }
-    ensures { λ r. ⌜ r ≡ heldBehind held i c ⌝ }
+    ensures { λ r. ⌜ r ≡ heldAfter held i c ⌝ }
 {
     if c == b'&' {
         return i;
@@ -135,7 +135,7 @@ fn decode(s: &[u8], room: &mut [u8], at: usize) -> usize
     let mut n = at;
     while i < s.len() {
         n = put_added(&s[held..i], s[i], room, n);
-        held = held_behind(held, i, s[i]);
+        held = held_after(held, i, s[i]);
         i += 1;
     }
     put_part(&s[held..], room, n)
@@ -151,7 +151,7 @@ pub fn put_decoded(text: &[u8], from: usize, to: usize, room: &mut [u8], at: usi
 
 // Is a byte one of the separators: full stops between classes, else whitespace.
 fn is_separator(stops: bool, b: u8) -> bool
-    ensures { λ r. ⌜ r ≡ such stops b ⌝ }
+    ensures { λ r. ⌜ r ≡ separates stops b ⌝ }
 {
     if stops {
         return b == b'.';
@@ -169,7 +169,7 @@ fn separator(stops: bool) -> u8
     b' '
 }
 
-// A byte that is no separator, behind the separator of the gap before it.
+// A byte that is no separator, after the separator of the gap before it.
 fn put_word(stops: bool, gap: bool, c: u8, room: &mut [u8], at: usize) -> usize
     requires { ⌜ at ≤ 2 * maxText ⌝ }
     ensures { λ r. ⌜ Stores (word gap (one stops) c) at (now (room .entry)) r (now (room .exit)) ⌝ }
@@ -182,10 +182,10 @@ fn put_word(stops: bool, gap: bool, c: u8, room: &mut [u8], at: usize) -> usize
     put(c, room, at)
 }
 
-// A text with its separators collapsed. A gap is a run of separators behind a word: its separator is put when another word follows.
+// A text with its separators collapsed. A gap is a run of separators after a word: its separator is put when another word follows.
 fn collapse(s: &[u8], stops: bool, room: &mut [u8], at: usize) -> usize
     requires { ⌜ (length (now s) ≤ maxText) × (at ≤ maxText) ⌝ }
-    ensures { λ r. ⌜ Stores (collapsed (such stops) (one stops) (now (s .entry))) at (now (room .entry)) r (now (room .exit)) ⌝ }
+    ensures { λ r. ⌜ Stores (collapsed (separates stops) (one stops) (now (s .entry))) at (now (room .entry)) r (now (room .exit)) ⌝ }
 {
     let mut i = 0;
     let mut n = at;
@@ -212,7 +212,7 @@ pub fn put_collapsed(
     at: usize,
 ) -> usize
     requires { ⌜ (from ≤ to) × (to ≤ length (now text)) × (length (now text) ≤ maxText) × (at ≤ maxText) ⌝ }
-    ensures { λ r. ⌜ Stores (collapsed (such stops) (one stops) (bytesAt (now (text .entry)) from to)) at (now (room .entry)) r (now (room .exit)) ⌝ }
+    ensures { λ r. ⌜ Stores (collapsed (separates stops) (one stops) (bytesAt (now (text .entry)) from to)) at (now (room .entry)) r (now (room .exit)) ⌝ }
 {
     collapse(&text[from..to], stops, room, at)
 }

@@ -101,7 +101,7 @@ module _ (s : List ℕ) (at : ℕ) (h : at ≤ length s) where
           let l = left-at s at r h (steady-arrow (drop at s) u r e) in
           (omega (arith, l .1), e ∙ rw n (ap (got tt) (l .0)))
 
--- the end time behind the whitespace and the arrow
+-- the end time after the whitespace and the arrow
 module _ (s : List ℕ) (at w : ℕ) (r : RunAt white s at w) where
   pub end-none : arrow (drop w s) ≡ failed → arrowAndEnd (drop at s) ≡ failed
   unfolding arrowAndEnd onGot

@@ -1,6 +1,6 @@
 // A cue's timing line.
 use format::settings::Settings;
-use values::bytes::Kind;
+use values::bytes::ByteKind;
 use values::times::Stamp;
 ghost use mathlib.Core.Path.{_≡_};
 ghost use Prim.Native.Nat.{_≤_};
@@ -35,16 +35,16 @@ fn arrow_end(s: &[u8], at: usize) -> ArrowEnd
     ArrowEnd::At(at + 3)
 }
 
-// The end time, behind an arrow and whitespace around it.
+// The end time, after an arrow and whitespace around it.
 fn read_end(s: &[u8], at: usize) -> Stamp
     requires { ⌜ at ≤ length (now s) ⌝ }
     ensures { λ r. ⌜ r ≡ stampIs (length (now (s .entry))) (arrowAndEnd (drop at (now (s .entry)))) ⌝ }
 {
-    match arrow_end(s, values::bytes::past(s, at, Kind::White)) {
+    match arrow_end(s, values::bytes::past(s, at, ByteKind::White)) {
         ArrowEnd::None => Stamp::Bad,
         ArrowEnd::At(next) => values::times::read_timestamp(
             s,
-            values::bytes::past(s, next, Kind::White),
+            values::bytes::past(s, next, ByteKind::White),
         ),
     }
 }
@@ -63,7 +63,7 @@ pub enum TimingLine {
     Good(Timing),
 }
 
-// The line from `at` on, behind the start time.
+// The line from `at` on, after the start time.
 fn after_start(s: &[u8], at: usize, over: bool, start: u64) -> TimingLine
     requires { ⌜ at ≤ length (now s) ⌝ }
     ensures { λ r. ⌜ r ≡ lineFrom (now (s .entry)) over start (stampIs (length (now (s .entry))) (arrowAndEnd (drop at (now (s .entry))))) ⌝ }
@@ -99,7 +99,7 @@ pub fn read_timing_line(s: &[u8], from: usize) -> TimingLine
     requires { ⌜ from ≤ length (now s) ⌝ }
     ensures { λ r. ⌜ r ≡ timingLineIs (timingLine (tokenFrom (now (s .entry)) from)) ⌝ }
 {
-    match values::times::read_timestamp(s, values::bytes::past(s, from, Kind::White)) {
+    match values::times::read_timestamp(s, values::bytes::past(s, from, ByteKind::White)) {
         Stamp::Bad => TimingLine::Bad,
         Stamp::Over { next } => after_start(s, next, true, 0),
         Stamp::At { ms, next } => after_start(s, next, false, ms),

@@ -59,22 +59,22 @@ module _ (s : List ℕ) (from to n w : ℕ) (h : from ≤ to) (l : to ≤ length
   unfolding bytesAt
   named = ap (run (inName true)) (sym x≡) ∙ names .bytes ∙ part-in s to from n (omega (arith, names .inside, long))
 
-  behind-name : pastRun (inName true) (bytesAt s from to) ≡ drop n b
-  behind-name = ap (pastRun (inName true)) (sym x≡) ∙ names .past
+  after-name : pastRun (inName true) (bytesAt s from to) ≡ drop n b
+  after-name = ap (pastRun (inName true)) (sym x≡) ∙ names .past
 
   classed : run (inName false) (drop n b) ≡ bytesAt s n w
   unfolding bytesAt
   classed = classes .bytes ∙ part-in s to n w (omega (arith, classes .inside, long))
 
-  behind-classes : pastRun (inName false) (drop n b) ≡ bytesAt s w to
-  behind-classes = classes .past ∙ tail-part s to w
+  after-classes : pastRun (inName false) (drop n b) ≡ bytesAt s w to
+  after-classes = classes .past ∙ tail-part s to w
 
   abbrev start : Token
   start = Token.Start (record { from = from; to = n }) (record { from = n; to = w }) (record { from = w; to = to })
 
   start-is : tokenIs s start ≡ startOf [] (bytesAt s from to)
   unfolding tokenIs startOf
-  start-is = rw (named, behind-name, classed, behind-classes)
+  start-is = rw (named, after-name, classed, after-classes)
 
   stops : n < w → eqb (getD s n 0) fullStop ≡ true
   stops m =
@@ -94,7 +94,7 @@ module _ (s : List ℕ) (from to n w : ℕ) (h : from ≤ to) (l : to ≤ length
               named = names .from;
               between = refl;
               classed = classes .from;
-              behind = refl;
+              beyond = refl;
               annotated = omega (arith, classes .inside, long);
               last = omega arith;
               inside = l;
@@ -149,7 +149,7 @@ wider s (Token.Start n q r) a b c d f g h k =
       named = k .named;
       between = k .between;
       classed = k .classed;
-      behind = k .behind;
+      beyond = k .beyond;
       annotated = k .annotated;
       last = omega (arith, k .last);
       inside = h;

@@ -9,7 +9,7 @@ use lib.ListN.{length, length-append}
 use borrow.Author.Tests.{eqb-true}
 use Rattle.format.specs.Bytes.{ascii, ampersand, semicolon, less, alphanumeric, digit}
 use Rattle.format.specs.Texts.{same, isEmpty, run, pastRun}
-use Rattle.format.specs.CueText.{stringToken, State, inData, inEscape, dataState, escapeState, escaped, visit, visitEnd, returned, behindVisit, behindCharacter, cueTokensFrom, cueTokens}
+use Rattle.format.specs.CueText.{stringToken, State, inData, inEscape, dataState, escapeState, escaped, visit, visitEnd, returned, afterVisit, afterCharacter, cueTokensFrom, cueTokens}
 use Rattle.laws.proofs.Tests.{by-test}
 use Rattle.tokenizer.specs.Decoding.{added, holding, decodedFrom, decoded}
 
@@ -26,14 +26,14 @@ next-data :
     (r : List ℕ) (c : ℕ) (s : List ℕ)
     → eqb c less ≡ false
     → cueTokensFrom (inData r) (c ∷ s) ≡ cueTokensFrom (standing (r ++ added [] c) (holding [] c)) s
-unfolding cueTokensFrom behindCharacter behindVisit visit dataState returned standing added holding
+unfolding cueTokensFrom afterCharacter afterVisit visit dataState returned standing added holding
 next-data r c s n = by-test (eqb c ampersand) (λ y. rw (y, append-nil r)) (λ m. rw (m, n))
 
 next-escape :
     (r : List ℕ) (b : ℕ) (h : List ℕ) (c : ℕ) (s : List ℕ)
     → eqb c less ≡ false
     → cueTokensFrom (inEscape r (b ∷ h)) (c ∷ s) ≡ cueTokensFrom (standing (r ++ added (b ∷ h) c) (holding (b ∷ h) c)) s
-unfolding cueTokensFrom behindCharacter behindVisit visit escapeState returned standing added holding
+unfolding cueTokensFrom afterCharacter afterVisit visit escapeState returned standing added holding
 next-escape r b h c s n =
     by-test (eqb c ampersand)
     (λ y. rw y)
@@ -91,7 +91,7 @@ not-empty [] h = absurd (omega arith)
 not-empty (b ∷ r) h = refl
 
 at-less : (r h : List ℕ) (s : List ℕ) → Started r h → cueTokensFrom (standing r h) (less ∷ s) ≡ stringToken (r ++ h) ∷ cueTokens (less ∷ s)
-unfolding standing cueTokens cueTokensFrom behindCharacter behindVisit visit dataState escapeState returned isEmpty alphanumeric digit
+unfolding standing cueTokens cueTokensFrom afterCharacter afterVisit visit dataState escapeState returned isEmpty alphanumeric digit
 at-less r [] s p = rw (not-empty r (omega arith), append-nil r)
 at-less r (b ∷ h) s p = refl
 

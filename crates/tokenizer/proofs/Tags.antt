@@ -1,4 +1,4 @@
--- The states of a tag at once: what stands behind `<` gives one tag, up to the next `>` or the end, and the tag is a function of the bytes
+-- The states of a tag at once: what stands after `<` gives one tag, up to the next `>` or the end, and the tag is a function of the bytes
 -- between.
 use Prim.Native.Nat.{ℕ}
 use mathlib.Core.Path.{_≡_, refl, sym, ap, _∙_}
@@ -11,7 +11,7 @@ use borrow.Author.Tests.{eqb-true, ne-eqb, leb-true, not-true}
 use Rattle.format.specs.Bytes.{tab, lf, formFeed, space, fullStop, solidus, less, greater, digit, white}
 use Rattle.format.specs.Texts.{all, isEmpty, run, pastRun}
 use Rattle.format.specs.Lines.{onFirst}
-use Rattle.format.specs.CueText.{Token, startTag, State, inData, inEscape, inTag, inStartTag, inClass, inAnnotation, inEndTag, inTimestampTag, Visit, goOn, passing, dataEnd, escapeEnd, tagEnd, startTagEnd, classEnd, annotationEnd, endTagEnd, timestampTagEnd, dataState, tagState, startTagState, classState, annotationState, endTagState, timestampTagState, blank, newBuffer, collapsing, collapsedFrom, collapsed, visit, visitEnd, begun, returned, behindVisit, behindCharacter, cueTokensFrom, cueTokens}
+use Rattle.format.specs.CueText.{Token, startTag, State, inData, inEscape, inTag, inStartTag, inClass, inAnnotation, inEndTag, inTimestampTag, Visit, goOn, passing, dataEnd, escapeEnd, tagEnd, startTagEnd, classEnd, annotationEnd, endTagEnd, timestampTagEnd, dataState, tagState, startTagState, classState, annotationState, endTagState, timestampTagState, blank, newBuffer, collapsing, collapsedFrom, collapsed, visit, visitEnd, begun, returned, afterVisit, afterCharacter, cueTokensFrom, cueTokens}
 use Rattle.laws.proofs.Tests.{by-test, and-left, and-right}
 use Rattle.laws.proofs.Runs.{run-all}
 use Rattle.tokenizer.specs.Tags.{inName, atStop, splitStops, classesOf, startOf, tagOf}
@@ -80,36 +80,36 @@ tag-goes c annotation n = rw n (goes annotation)
 tag-goes c end n = rw n (goes end)
 tag-goes c timestamp n = rw n (goes timestamp)
 
--- the state behind bytes
+-- the state after bytes
 unfoldable after : State → List ℕ → State
 after st [] = st
-after st (c ∷ s) = after (behindCharacter st c) s
+after st (c ∷ s) = after (afterCharacter st c) s
 
 returned-none : {v : Visit} → GoesOn v → returned v ≡ []
 unfolding returned
 returned-none (goes t) = refl
 
-still-tagged : {v : Visit} (again : State) → GoesOn v → Tagged (behindVisit v again)
-unfolding behindVisit
+still-tagged : {v : Visit} (again : State) → GoesOn v → Tagged (afterVisit v again)
+unfolding afterVisit
 still-tagged again (goes t) = t
 
 tag-tokens :
     {st : State} (s : List ℕ)
     → Tagged st
     → cueTokensFrom st s ≡ closing (after st (run notGreater s)) ∷ cueTokens (drop 1 (pastRun notGreater s))
-unfolding cueTokensFrom cueTokens after run pastRun behindCharacter visitEnd isEmpty returned behindVisit
+unfolding cueTokensFrom cueTokens after run pastRun afterCharacter visitEnd isEmpty returned afterVisit
 tag-tokens {st} [] t = tag-ends t
 tag-tokens {st} (c ∷ s) t =
     by-test (eqb c greater)
     (λ y. let e = eqb-true c greater y in rw (e, tag-closes t) refl)
     (λ n.
     let g = tag-goes c t n in
-    rw (n, returned-none g) (tag-tokens s (still-tagged (behindVisit (visit begun c) begun) g)))
+    rw (n, returned-none g) (tag-tokens s (still-tagged (afterVisit (visit begun c) begun) g)))
 
 -- bytes that a state only gathers
 gathers :
     (f : List ℕ → State)
-    → ((r : List ℕ) (c : ℕ) → eqb c greater ≡ false → behindCharacter (f r) c ≡ f (r ++ c ∷ []))
+    → ((r : List ℕ) (c : ℕ) → eqb c greater ≡ false → afterCharacter (f r) c ≡ f (r ++ c ∷ []))
     → (r x : List ℕ)
     → all notGreater x ≡ true
     → after (f r) x ≡ f (r ++ x)
@@ -119,19 +119,19 @@ gathers f step r (c ∷ x) p =
     let n = not-true (eqb c greater) (and-left (not (eqb c greater)) (all notGreater x) p) in
     rw (step r c n) (gathers f step (r ++ c ∷ []) x (and-right (not (eqb c greater)) (all notGreater x) p) ∙ rw (append-assoc r (c ∷ []) x))
 
-end-gathers : (r : List ℕ) (c : ℕ) → eqb c greater ≡ false → behindCharacter (inEndTag r) c ≡ inEndTag (r ++ c ∷ [])
-unfolding behindCharacter behindVisit visit endTagState
+end-gathers : (r : List ℕ) (c : ℕ) → eqb c greater ≡ false → afterCharacter (inEndTag r) c ≡ inEndTag (r ++ c ∷ [])
+unfolding afterCharacter afterVisit visit endTagState
 end-gathers r c n = rw n
 
-timestamp-gathers : (r : List ℕ) (c : ℕ) → eqb c greater ≡ false → behindCharacter (inTimestampTag r) c ≡ inTimestampTag (r ++ c ∷ [])
-unfolding behindCharacter behindVisit visit timestampTagState
+timestamp-gathers : (r : List ℕ) (c : ℕ) → eqb c greater ≡ false → afterCharacter (inTimestampTag r) c ≡ inTimestampTag (r ++ c ∷ [])
+unfolding afterCharacter afterVisit visit timestampTagState
 timestamp-gathers r c n = rw n
 
 annotation-gathers :
     (r : List ℕ) (cs : List (List ℕ)) (b : List ℕ) (c : ℕ)
     → eqb c greater ≡ false
-    → behindCharacter (inAnnotation r cs b) c ≡ inAnnotation r cs (b ++ c ∷ [])
-unfolding behindCharacter behindVisit visit annotationState
+    → afterCharacter (inAnnotation r cs b) c ≡ inAnnotation r cs (b ++ c ∷ [])
+unfolding afterCharacter afterVisit visit annotationState
 annotation-gathers r cs b c n = rw n
 
 -- whitespace before an annotation is not part of it
@@ -196,29 +196,29 @@ unfolding inName
 name-other c n m = rw (n, m)
 
 module _ (r : List ℕ) (cs : List (List ℕ)) (b : List ℕ) (c : ℕ) where
-  class-ends : blank c ≡ true → behindCharacter (inClass r cs b) c ≡ inAnnotation r (cs ++ b ∷ []) (newBuffer c)
-  unfolding behindCharacter behindVisit visit classState
+  class-ends : blank c ≡ true → afterCharacter (inClass r cs b) c ≡ inAnnotation r (cs ++ b ∷ []) (newBuffer c)
+  unfolding afterCharacter afterVisit visit classState
   class-ends y = rw y
 
-  class-parts : blank c ≡ false → eqb c fullStop ≡ true → behindCharacter (inClass r cs b) c ≡ inClass r (cs ++ b ∷ []) []
-  unfolding behindCharacter behindVisit visit classState
+  class-parts : blank c ≡ false → eqb c fullStop ≡ true → afterCharacter (inClass r cs b) c ≡ inClass r (cs ++ b ∷ []) []
+  unfolding afterCharacter afterVisit visit classState
   class-parts n y = rw (n, y)
 
-  class-goes : blank c ≡ false → eqb c fullStop ≡ false → eqb c greater ≡ false → behindCharacter (inClass r cs b) c ≡ inClass r cs (b ++ c ∷ [])
-  unfolding behindCharacter behindVisit visit classState
+  class-goes : blank c ≡ false → eqb c fullStop ≡ false → eqb c greater ≡ false → afterCharacter (inClass r cs b) c ≡ inClass r cs (b ++ c ∷ [])
+  unfolding afterCharacter afterVisit visit classState
   class-goes n m g = rw (n, m, g)
 
 module _ (r : List ℕ) (c : ℕ) where
-  name-ends : blank c ≡ true → behindCharacter (inStartTag r) c ≡ inAnnotation r [] (newBuffer c)
-  unfolding behindCharacter behindVisit visit startTagState
+  name-ends : blank c ≡ true → afterCharacter (inStartTag r) c ≡ inAnnotation r [] (newBuffer c)
+  unfolding afterCharacter afterVisit visit startTagState
   name-ends y = rw y
 
-  name-parts : blank c ≡ false → eqb c fullStop ≡ true → behindCharacter (inStartTag r) c ≡ inClass r [] []
-  unfolding behindCharacter behindVisit visit startTagState
+  name-parts : blank c ≡ false → eqb c fullStop ≡ true → afterCharacter (inStartTag r) c ≡ inClass r [] []
+  unfolding afterCharacter afterVisit visit startTagState
   name-parts n y = rw (n, y)
 
-  name-goes : blank c ≡ false → eqb c fullStop ≡ false → eqb c greater ≡ false → behindCharacter (inStartTag r) c ≡ inStartTag (r ++ c ∷ [])
-  unfolding behindCharacter behindVisit visit startTagState
+  name-goes : blank c ≡ false → eqb c fullStop ≡ false → eqb c greater ≡ false → afterCharacter (inStartTag r) c ≡ inStartTag (r ++ c ∷ [])
+  unfolding afterCharacter afterVisit visit startTagState
   name-goes n m g = rw (n, m, g)
 
 class-closes :
@@ -296,7 +296,7 @@ unfolding startOf run pastRun
 start-goes c x n m = rw (name-other c n m) refl
 
 first-closes : (x : List ℕ) → all notGreater x ≡ true → closing (after inTag x) ≡ tagOf x
-unfolding after all closing tagOf behindCharacter behindVisit visit tagState blank digit startOf run pastRun classesOf collapsed collapsedFrom
+unfolding after all closing tagOf afterCharacter afterVisit visit tagState blank digit startOf run pastRun classesOf collapsed collapsedFrom
 first-closes [] p = refl
 first-closes (c ∷ x) p =
     let g = not-true (eqb c greater) (and-left (not (eqb c greater)) (all notGreater x) p) in
@@ -320,5 +320,5 @@ first-closes (c ∷ x) p =
 
 pub tag-token :
     (s : List ℕ) → cueTokens (less ∷ s) ≡ tagOf (run notGreater s) ∷ cueTokens (drop 1 (pastRun notGreater s))
-unfolding cueTokens cueTokensFrom returned visit dataState isEmpty behindCharacter behindVisit
+unfolding cueTokens cueTokensFrom returned visit dataState isEmpty afterCharacter afterVisit
 tag-token s = tag-tokens s tag ∙ rw (first-closes (run notGreater s) (run-all notGreater s))

@@ -14,7 +14,7 @@ added (b ∷ held) c =
     cond (eqb c ampersand) (b ∷ held)
     (cond (alphanumeric c) [] (cond (eqb c semicolon) (escaped (b ∷ held)) ((b ∷ held) ++ c ∷ [])))
 
--- what is held behind a byte
+-- what is held after a byte
 unfoldable pub holding : List ℕ → ℕ → List ℕ
 holding [] c = cond (eqb c ampersand) (c ∷ []) []
 holding (b ∷ held) c = cond (eqb c ampersand) (c ∷ []) (cond (alphanumeric c) ((b ∷ held) ++ c ∷ []) [])

@@ -51,7 +51,7 @@ pub record StartIn (s : List ℕ) (from to : ℕ) (name classes annotation : Spa
   pub named : name .from ≤ name .to
   pub between : name .to ≡ classes .from
   pub classed : classes .from ≤ classes .to
-  pub behind : classes .to ≡ annotation .from
+  pub beyond : classes .to ≡ annotation .from
   pub annotated : annotation .from ≤ annotation .to
   pub last : annotation .to ≤ to
   pub inside : to ≤ length s
@@ -87,7 +87,7 @@ pub record TagAt (s : List ℕ) (from to : ℕ) (t : Token) : Type 0 where
   pub is : tokenIs s t ≡ tagOf (bytesAt s from to)
   pub parts : PartsIn s from to t
 
--- a start tag's name stands behind `<`, and where the text goes on behind the tag, `>` stands behind its annotation
+-- a start tag's name stands after `<`, and where the text goes on after the tag, `>` stands after its annotation
 abbrev pub Marked : List ℕ → ℕ → ℕ → Token → Type 0
 Marked s at next (Token.String p) = Unit
 Marked s at next (Token.Start name classes annotation) = (at < name .from) × (next < length s → annotation .to < next)

@@ -1,6 +1,6 @@
 // The tokens of a cue text, each as parts of the text. Any text and any place in it are taken.
 use format::settings::Span;
-use values::bytes::Kind;
+use values::bytes::ByteKind;
 use values::bytes::is_digit;
 use values::bytes::past;
 ghost use mathlib.Core.Path.{_≡_};
@@ -120,14 +120,14 @@ pub fn step(text: &[u8], at: usize) -> Stepped
         return Stepped::None;
     }
     if text[at] != b'<' {
-        let to = past(text, at, Kind::Until(b'<'));
+        let to = past(text, at, ByteKind::Until(b'<'));
         return Stepped::Next {
             token: Token::String(Span { from: at, to }),
             next: to,
         };
     }
     let from = at + 1;
-    let to = past(text, from, Kind::Until(b'>'));
+    let to = past(text, from, ByteKind::Until(b'>'));
     let token = tag(text, from, to);
     if to < text.len() {
         return Stepped::Next {

@@ -1,4 +1,4 @@
--- Parts of a slice as the code cuts them: up to the first of a byte, behind it, and a token at its first colon.
+-- Parts of a slice as the code cuts them: up to the first of a byte, after it, and a token at its first colon.
 use Prim.Native.Nat.{ℕ, suc, _+_, _-_, _≤_, _<_, min}
 use mathlib.Core.Path.{_≡_, refl, sym, ap, _∙_}
 use mathlib.Core.Bool.{true, false, not, _||_}
@@ -10,16 +10,16 @@ use lib.ListN.{length, take, drop, length-drop, drop-of-length-le}
 use lib.Seq.{take-all, drop-drop, length-take-le}
 use borrow.Author.Tests.{eqb-true, eqb-false, lt-ltb, le-ltb}
 use Rattle.format.specs.Bytes.{colon}
-use Rattle.format.specs.Texts.{has, isEmpty, beforeFirst, behindFirst, run}
+use Rattle.format.specs.Texts.{has, isEmpty, beforeFirst, afterFirst, run}
 use Rattle.format.specs.Tokens.{nameOf, valueOf}
 use Rattle.format.specs.CueSettings.{spanIs}
 use Rattle.laws.proofs.Tests.{by-test, or-true}
 use Rattle.laws.proofs.Runs.{run-take, run-length, drop-take}
-use Rattle.laws.proofs.Tokens.{first-at, behind-at}
+use Rattle.laws.proofs.Tokens.{first-at, after-at}
 use Rattle.values.specs.Tokens.{tokenFrom, Named, spanTo, partOf}
 use Rattle.values.proofs.NumberLaws.{is-empty-not, empty-is}
 
--- the first c stands at k, or nowhere where k is the length
+-- the first c stands at k, or emptyPart where k is the length
 module _ (c : ℕ) (x : List ℕ) (k : ℕ) (e : k ≡ length (beforeFirst c x)) where
   pub front : take k x ≡ beforeFirst c x
   unfolding beforeFirst
@@ -31,10 +31,10 @@ module _ (c : ℕ) (x : List ℕ) (k : ℕ) (e : k ≡ length (beforeFirst c x))
   pub has-one : k < length x → has c x ≡ true
   has-one l = first-at c x ∙ lt-ltb (length (beforeFirst c x)) (length x) (omega arith)
 
-  pub behind : k < length x → take (length x - (k + 1)) (drop (k + 1) x) ≡ behindFirst c x
-  behind l =
+  pub beyond : k < length x → take (length x - (k + 1)) (drop (k + 1) x) ≡ afterFirst c x
+  beyond l =
       take-all (length x - (k + 1)) (drop (k + 1) x) (omega (arith, length-drop (k + 1) x))
-      ∙ rw (add-one k, e) (sym (behind-at c x))
+      ∙ rw (add-one k, e) (sym (after-at c x))
 
 -- where the code's run up to c ends
 pub first-is : (c : ℕ) (x : List ℕ) (k : ℕ) → k ≡ 0 + length (run (λ b. not (eqb b c)) x) → k ≡ length (beforeFirst c x)
@@ -65,7 +65,7 @@ pub before-length : (c : ℕ) (x : List ℕ) → length (beforeFirst c x) ≤ le
 unfolding beforeFirst
 before-length c x = run-length (λ b. not (eqb b c)) x
 
--- a token of a slice, cut at its first colon, k bytes behind its start
+-- a token of a slice, cut at its first colon, k bytes after its start
 module _ (s : List ℕ) (from k : ℕ) (e : k ≡ length (beforeFirst colon (drop from s))) where
   pub no-name : k ≡ 0 → isEmpty (nameOf (tokenFrom s from)) || isEmpty (valueOf (tokenFrom s from) .bytes) ≡ true
   unfolding nameOf
@@ -77,15 +77,15 @@ module _ (s : List ℕ) (from k : ℕ) (e : k ≡ length (beforeFirst colon (dro
   unfolding nameOf valueOf isEmpty
   no-value l =
       let m : length (drop from s) ≤ suc k = omega arith in
-      let v : behindFirst colon (drop from s) ≡ [] = behind-at colon (drop from s) ∙ rw (← e, drop-of-length-le (drop from s) m) refl in
+      let v : afterFirst colon (drop from s) ≡ [] = after-at colon (drop from s) ∙ rw (← e, drop-of-length-le (drop from s) m) refl in
       rw v (or-true (isEmpty (beforeFirst colon (drop from s))))
 
   pub named-at : 0 < k → k + 1 < length (drop from s) → Named s from (from + k)
   unfolding nameOf valueOf
   named-at h l =
       let q : from + suc k ≡ from + k + 1 = omega arith in
-      let v : behindFirst colon (drop from s) ≡ drop (from + k + 1) s =
-      behind-at colon (drop from s) ∙ rw (← e, drop-drop (suc k) from s, q) in
+      let v : afterFirst colon (drop from s) ≡ drop (from + k + 1) s =
+      after-at colon (drop from s) ∙ rw (← e, drop-drop (suc k) from s, q) in
       let p : from + suc (length (beforeFirst colon (drop from s))) ≡ from + k + 1 = omega arith in
       let d : from + k - from ≡ k = omega arith in
       record {

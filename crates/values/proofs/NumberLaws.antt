@@ -15,7 +15,7 @@ use Rattle.format.specs.Texts.{all, pastRun, isEmpty, endsWith}
 use Rattle.format.specs.Numbers.{number, someDigits, Decimal, decimalOf, decimal, above, millionths, upTo100, percentage, signed, lineNumber, overLine, isNegative, lineCount}
 use Rattle.laws.proofs.Tests.{by-test, and-false}
 use Rattle.laws.proofs.Runs.{RunStart, endsWith-last, withoutLast-take}
-use Rattle.values.specs.Numbers.{cap, decimalIs, aboveHeld, percentageIs, shareOf, lineOf, lineNumberIs}
+use Rattle.values.specs.Numbers.{cap, decimalIs, aboveHeld, percentageIs, percentageOf, lineOf, lineNumberIs}
 
 -- a test against a number below the cap is the same on the held value
 pub ltb-held : (k v : ℕ) → k < cap → ltb k (min v cap) ≡ ltb k v
@@ -59,7 +59,7 @@ exact limit d l e =
     let n = not-above limit (min (number (d .whole)) cap) (not (all (λ b. eqb b 0x30) (d .fraction))) (above-held limit d l ∙ e) in
     omega arith
 
-pub share-is : (o : Option Decimal) → shareOf (decimalIs o) ≡ percentageIs (upTo100 o)
+pub share-is : (o : Option Decimal) → percentageOf (decimalIs o) ≡ percentageIs (upTo100 o)
 unfolding upTo100 millionths
 share-is none = refl
 share-is (some d) =

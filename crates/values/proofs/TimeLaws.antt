@@ -140,7 +140,7 @@ module _ (s : List ℕ) (at c n : ℕ) (h : at ≤ length s) where
           let z : _≡_ {A = ℕ} 0 1 = cc in
           absurd (omega arith)
 
--- the steps behind the seconds, from the thousandths' field
+-- the steps after the seconds, from the thousandths' field
 module _ (s : List ℕ) (at : ℕ) (t : Time) where
   pub last-unread : field fullStop 3 (drop at s) ≡ failed → lastSteps t (drop at s) ≡ failed
   unfolding lastSteps onGot

@@ -35,9 +35,9 @@ percentageIs (some n) = Percentage.Good n
 abbrev pub aboveHeld : ℕ → ℕ → Bool → Bool
 aboveHeld limit whole more = ltb limit whole || (eqb whole limit && more)
 
-abbrev pub shareOf : Decimal → Percentage
-shareOf Decimal.Bad = Percentage.Bad
-shareOf (Decimal.Good w f m) = cond (aboveHeld 100 w m) Percentage.Bad (Percentage.Good (w * 1_000_000 + f))
+abbrev pub percentageOf : Decimal → Percentage
+percentageOf Decimal.Bad = Percentage.Bad
+percentageOf (Decimal.Good w f m) = cond (aboveHeld 100 w m) Percentage.Bad (Percentage.Good (w * 1_000_000 + f))
 
 abbrev pub lineOf : Bool → Decimal → LineNumber
 lineOf minus Decimal.Bad = LineNumber.Bad

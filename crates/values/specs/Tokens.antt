@@ -14,7 +14,7 @@ use Rattle.values.specs.declared.tokens.Token.the-variants as Token
 use Rattle.values.specs.declared.tokens.NameEnd.{NameEnd}
 use Rattle.values.specs.declared.tokens.NameEnd.the-variants as NameEnd
 
--- a token from one place up to another, and those behind it
+-- a token from one place up to another, and those after it
 pub record TokenHere (s : List ℕ) (i from to : ℕ) : Type 0 where
   pub first : tokens i (drop i s) ≡ record { place = from; bytes = drop from (take to s) } ∷ tokens to (drop to s)
   pub moves : i < to

@@ -31,7 +31,7 @@ pub fn is_white(b: u8) -> bool
 }
 
 // What a run is made of.
-pub enum Kind {
+pub enum ByteKind {
     White,
     // All but whitespace.
     Token,
@@ -41,20 +41,20 @@ pub enum Kind {
     Only(u8),
 }
 
-fn goes_on(kind: Kind, b: u8) -> bool
+fn goes_on(kind: ByteKind, b: u8) -> bool
     ensures { λ r. ⌜ r ≡ passes kind b ⌝ }
 {
     match kind {
-        Kind::White => is_white(b),
-        Kind::Token => !is_white(b),
-        Kind::Digits => is_digit(b),
-        Kind::Until(c) => b != c,
-        Kind::Only(c) => b == c,
+        ByteKind::White => is_white(b),
+        ByteKind::Token => !is_white(b),
+        ByteKind::Digits => is_digit(b),
+        ByteKind::Until(c) => b != c,
+        ByteKind::Only(c) => b == c,
     }
 }
 
 // Where the run that stands at `at` ends.
-pub fn past(s: &[u8], at: usize, kind: Kind) -> usize
+pub fn past(s: &[u8], at: usize, kind: ByteKind) -> usize
     requires { ⌜ at ≤ length (now s) ⌝ }
     ensures { λ r. ⌜ r ≡ at + length (run (passes kind) (drop at (now (s .entry)))) ⌝ }
 {

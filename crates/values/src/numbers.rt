@@ -1,5 +1,5 @@
 // Decimal numbers of any length, held up to a number above every limit.
-use super::bytes::Kind;
+use super::bytes::ByteKind;
 ghost use mathlib.Core.Path.{_≡_};
 ghost use mathlib.Core.Bool.{_||_, _&&_};
 ghost use lib.Dec.{ltb, eqb};
@@ -8,12 +8,12 @@ ghost use lib.ListN.{getD, take};
 ghost use mathlib.Core.List.{_++_};
 ghost use Rattle.format.specs.Bytes.{ascii};
 ghost use Rattle.format.specs.Numbers.{number, decimal, percentage, lineNumber, lineCount};
-ghost use Rattle.values.specs.Numbers.{cap, decimalIs, percentageIs, shareOf, lineOf, lineNumberIs, lineCountIs};
+ghost use Rattle.values.specs.Numbers.{cap, decimalIs, percentageIs, percentageOf, lineOf, lineNumberIs, lineCountIs};
 
 // Above every limit: a number that is greater is held at this.
 const CAP: u64 = 1_000_000;
 
-// The value of the digit at `i`, 0 behind the end.
+// The value of the digit at `i`, 0 after the end.
 fn digit_at(ds: &[u8], i: usize) -> u64
     ensures { λ r. ⌜ (r ≡ getD (now (ds .entry)) i 0 - 0x30) × (r ≤ 207) ⌝ }
 {
@@ -43,7 +43,7 @@ pub fn number_of(ds: &[u8]) -> u64
     v
 }
 
-// The first six digits behind a full stop as millionths.
+// The first six digits after a full stop as millionths.
 fn six_digits(ds: &[u8]) -> u32
     ensures { λ r. ⌜ r ≡ number (take 6 (now (ds .entry) ++ ascii "000000")) ⌝ }
 {
@@ -54,7 +54,7 @@ fn six_digits(ds: &[u8]) -> u32
 
 pub enum Decimal {
     Bad,
-    // The digits before the full stop, held at CAP; the millionths behind it; is any digit behind it not 0.
+    // The digits before the full stop, held at CAP; the millionths after it; is any digit after it not 0.
     Good {
         whole: u64,
         fraction: u32,
@@ -65,7 +65,7 @@ pub enum Decimal {
 pub fn read_decimal(s: &[u8]) -> Decimal
     ensures { λ r. ⌜ r ≡ decimalIs (decimal (now (s .entry))) ⌝ }
 {
-    let end = super::bytes::past(s, 0, Kind::Digits);
+    let end = super::bytes::past(s, 0, ByteKind::Digits);
     if end == 0 {
         return Decimal::Bad;
     }
@@ -84,14 +84,14 @@ pub fn read_decimal(s: &[u8]) -> Decimal
     if s.len() == from {
         return Decimal::Bad;
     }
-    if super::bytes::past(s, from, Kind::Digits) < s.len() {
+    if super::bytes::past(s, from, ByteKind::Digits) < s.len() {
         return Decimal::Bad;
     }
     let rest = &s[from..];
     Decimal::Good {
         whole,
         fraction: six_digits(rest),
-        more: super::bytes::past(rest, 0, Kind::Only(b'0')) < rest.len(),
+        more: super::bytes::past(rest, 0, ByteKind::Only(b'0')) < rest.len(),
     }
 }
 
@@ -103,7 +103,7 @@ pub enum Percentage {
 
 // A decimal up to 100, in millionths.
 fn share_of(size: Decimal) -> Percentage
-    ensures { λ r. ⌜ r ≡ shareOf size ⌝ }
+    ensures { λ r. ⌜ r ≡ percentageOf size ⌝ }
 {
     match size {
         Decimal::Bad => Percentage::Bad,
@@ -133,7 +133,7 @@ pub fn read_percentage(s: &[u8]) -> Percentage
     share_of(read_decimal(&s[..last]))
 }
 
-// Is a decimal with these digits before the full stop, and others than 0 behind it or not, above a limit.
+// Is a decimal with these digits before the full stop, and others than 0 after it or not, above a limit.
 fn exceeds(whole: u64, more: bool, limit: u64) -> bool
     ensures { λ r. ⌜ r ≡ (ltb limit whole || (eqb whole limit && more)) ⌝ }
 {
@@ -198,7 +198,7 @@ pub fn read_line_count(s: &[u8]) -> LineCount
     if s.len() == 0 {
         return LineCount::Bad;
     }
-    if super::bytes::past(s, 0, Kind::Digits) < s.len() {
+    if super::bytes::past(s, 0, ByteKind::Digits) < s.len() {
         return LineCount::Bad;
     }
     let n = number_of(s);

@@ -1,5 +1,5 @@
 // Timestamps, by the steps of the specification.
-use super::bytes::Kind;
+use super::bytes::ByteKind;
 ghost use mathlib.Core.Path.{_≡_};
 ghost use mathlib.Core.Bool.{not, _||_};
 ghost use mathlib.Core.List.{[], _∷_};
@@ -36,7 +36,7 @@ fn read_field(s: &[u8], at: usize, c: u8, n: usize) -> Field
         return Field::Bad;
     }
     let from = at + 1;
-    let end = super::bytes::past(s, from, Kind::Digits);
+    let end = super::bytes::past(s, from, ByteKind::Digits);
     if end - from != n {
         return Field::Bad;
     }
@@ -80,7 +80,7 @@ fn is_colon(s: &[u8], at: usize) -> bool
     false
 }
 
-// Are there three values: the first has not two digits or is above 59, or a colon stands behind the second.
+// Are there three values: the first has not two digits or is above 59, or a colon stands after the second.
 fn has_hours(s: &[u8], at: usize, digits: usize, first: u64) -> bool
     requires { ⌜ at ≤ length (now s) ⌝ }
     ensures { λ r. ⌜ r ≡ (not (eqb digits 2) || ltb 59 first || startsWith (colon ∷ []) (drop at (now (s .entry)))) ⌝ }
@@ -98,7 +98,7 @@ pub fn read_timestamp(s: &[u8], at: usize) -> Stamp
     requires { ⌜ at ≤ length (now s) ⌝ }
     ensures { λ r. ⌜ r ≡ stampIs (length (now (s .entry))) (timestamp (drop at (now (s .entry)))) ⌝ }
 {
-    let end = super::bytes::past(s, at, Kind::Digits);
+    let end = super::bytes::past(s, at, ByteKind::Digits);
     if end == at {
         return Stamp::Bad;
     }

@@ -1,5 +1,5 @@
 // Tokens, parted by whitespace.
-use super::bytes::Kind;
+use super::bytes::ByteKind;
 use format::settings::Span;
 ghost use mathlib.Core.Path.{_≡_};
 ghost use Prim.Native.Nat.{_≤_};
@@ -11,16 +11,16 @@ pub enum Token {
     At { from: usize, to: usize },
 }
 
-// The first token that stands at `i` or behind it.
+// The first token that stands at `i` or after it.
 pub fn next_token(s: &[u8], i: usize) -> Token
     requires { ⌜ i ≤ length (now s) ⌝ }
     ensures { λ r. ⌜ TokenAt (now (s .entry)) i r ⌝ }
 {
-    let from = super::bytes::past(s, i, Kind::White);
+    let from = super::bytes::past(s, i, ByteKind::White);
     if from == s.len() {
         return Token::End;
     }
-    let to = super::bytes::past(s, from, Kind::Token);
+    let to = super::bytes::past(s, from, ByteKind::Token);
     Token::At { from, to }
 }
 
@@ -38,7 +38,7 @@ pub fn name_end(s: &[u8], from: usize) -> NameEnd
     ensures { λ r. ⌜ NameAt (now (s .entry)) from r ⌝ }
 {
     let token = &s[from..];
-    let colon = super::bytes::past(token, 0, Kind::Until(b':'));
+    let colon = super::bytes::past(token, 0, ByteKind::Until(b':'));
     if colon == 0 {
         return NameEnd::None;
     }

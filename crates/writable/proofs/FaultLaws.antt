@@ -20,7 +20,7 @@ failed {r} e f = sym e ∙ not-true r f
 pub passed : {r t : Bool} → r ≡ t → not r ≡ false → t ≡ true
 passed {r} e p = sym e ∙ not-false r p
 
--- the first failing test among some tests, or else among those behind them
+-- the first failing test among some tests, or else among those after them
 pub fails-front :
     (n : ℕ) (ts us : List Bool) → (testNumber (firstFailing n ts) ≡ 0 → ⊥) → testNumber (firstFailing n ts) ≡ testNumber (firstFailing n (ts ++ us))
 unfolding firstFailing
@@ -28,14 +28,14 @@ fails-front n [] us f = absurd (f refl)
 fails-front n (true ∷ ts) us f = fails-front (n + 1) ts us f
 fails-front n (false ∷ ts) us f = refl
 
-pub fails-behind :
+pub fails-after :
     (n : ℕ) (ts us : List Bool) → 0 < n → testNumber (firstFailing n ts) ≡ 0 → firstFailing n (ts ++ us) ≡ firstFailing (n + length ts) us
 unfolding firstFailing
-fails-behind n [] us h e = let z : n + 0 ≡ n = omega arith in rw z refl
-fails-behind n (true ∷ ts) us h e =
+fails-after n [] us h e = let z : n + 0 ≡ n = omega arith in rw z refl
+fails-after n (true ∷ ts) us h e =
     let z : n + 1 + length ts ≡ n + suc (length ts) = omega arith in
-    fails-behind (n + 1) ts us (omega arith) e ∙ rw z refl
-fails-behind n (false ∷ ts) us h e = absurd (omega arith)
+    fails-after (n + 1) ts us (omega arith) e ∙ rw z refl
+fails-after n (false ∷ ts) us h e = absurd (omega arith)
 
 -- tests are counted from 1, so 0 says that none fails
 pub none-fails : (n : ℕ) (ts : List Bool) → 0 < n → testNumber (firstFailing n ts) ≡ 0 → firstFailing n ts ≡ none

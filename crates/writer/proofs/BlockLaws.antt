@@ -1,4 +1,4 @@
--- Laws of blocks one behind another, as the loops over the tables put them.
+-- Laws of blocks one after another, as the loops over the tables put them.
 use Prim.Native.Nat.{ℕ, suc, _+_, _<_, _≤_}
 use mathlib.Core.Path.{_≡_, refl, sym, ap, _∙_}
 use mathlib.Core.List.{List, [], _∷_, _++_, map, map-map, append-assoc, append-nil}
@@ -6,7 +6,7 @@ use native.Mathlib.Numerals.{add-one}
 use lib.ListN.{length, getD, drop, drop-of-length-le}
 use lib.Seq.{drop-cons}
 use Rattle.format.specs.Bytes.{ascii, lf}
-use Rattle.format.specs.Lines.{split, endedLines, join}
+use Rattle.format.specs.Lines.{split, afterLineEnds, join}
 use Rattle.format.specs.Contents.{CueContents, RegionContents, contentsOfRows, cueOfRow, regionOfRow, styleOfRow}
 use Rattle.format.specs.Writing.{fileOf}
 use Rattle.format.specs.Written.{writtenTiming, linesOf, cueLines, regionLines, styleLines, apart, fileLines, lineEnded, written}
@@ -30,7 +30,7 @@ blocks-append bs cs = ap lineEnded (apart-append bs cs) ∙ lineEnded-append (ap
 
 -- a block's lines, each ended, are the lines joined and one LF more
 ended-joined : (l : List ℕ) (ls : List (List ℕ)) → lineEnded (l ∷ ls) ≡ join (l ∷ ls) ++ lf ∷ []
-unfolding lineEnded join endedLines
+unfolding lineEnded join afterLineEnds
 ended-joined l [] = ap (λ r. r ++ lf ∷ []) (sym (append-nil l))
 ended-joined l (m ∷ ls) = ap (λ r. l ++ lf ∷ r) (ended-joined m ls) ∙ sym (append-assoc l (lf ∷ join (m ∷ ls)) (lf ∷ []))
 
@@ -61,7 +61,7 @@ tableForm lines rows = lineEnded (apart (map lines rows))
 module _ (lines : List ℕ → List (List ℕ)) (ended : (w : List ℕ) → Ended (lines w)) (rows : List (List ℕ)) where
   abbrev pub Left : ℕ → List ℕ → ℕ → ℕ → List ℕ → Type 0
   Left at out₀ i to out =
-      (behind : ℕ) (room : List ℕ) → Puts (tableForm lines (drop i rows)) to out behind room → Puts (tableForm lines rows) at out₀ behind room
+      (beyond : ℕ) (room : List ℕ) → Puts (tableForm lines (drop i rows)) to out beyond room → Puts (tableForm lines rows) at out₀ beyond room
 
   first-block : (w : List ℕ) (ws : List (List ℕ)) → tableForm lines (w ∷ ws) ≡ blockForm (lines w) ++ tableForm lines ws
   unfolding apart lineEnded blockForm
@@ -74,8 +74,8 @@ module _ (lines : List ℕ → List (List ℕ)) (ended : (w : List ℕ) → Ende
         → i < length rows
         → Puts (blockForm (lines (getD rows i []))) to out next o
         → Left at out₀ (i + 1) next o
-    next-block h f behind room g =
-        left behind room (puts-as (sym (ap (tableForm lines) (drop-cons rows i [] h) ∙ first-block (getD rows i []) (drop (suc i) rows))) (f then rw (add-one i) at g))
+    next-block h f beyond room g =
+        left beyond room (puts-as (sym (ap (tableForm lines) (drop-cons rows i [] h) ∙ first-block (getD rows i []) (drop (suc i) rows))) (f then rw (add-one i) at g))
 
     pub last-block : length rows ≤ i → Puts (tableForm lines rows) at out₀ to out
     unfolding apart lineEnded

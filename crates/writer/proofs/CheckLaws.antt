@@ -1,4 +1,4 @@
--- Laws of checking lists in their order: a row that fails refuses, and lists without one let what is behind them answer.
+-- Laws of checking lists in their order: a row that fails refuses, and lists without one let what is after them answer.
 use Prim.Native.Nat.{ℕ}
 use mathlib.Core.Path.{_≡_, refl, sym}
 use mathlib.Core.List.{List, [], _∷_}

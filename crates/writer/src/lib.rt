@@ -16,7 +16,7 @@ ghost use lib.ListN.{length, take};
 ghost use Rattle.format.specs.Contents.{cueOfRow, regionOfRow, styleOfRow, contentsOfRows};
 ghost use Rattle.format.specs.Written.{styleLines, regionLines, cueLines, apart, lineEnded};
 ghost use Rattle.format.specs.Writing.{writingIs, fileOf, writing, writtenRoom, ReadBack};
-ghost use Rattle.format.specs.declared.Writing.the-variants as Answer;
+ghost use Rattle.format.specs.declared.Writing.the-variants as Cases;
 ghost use Rattle.output.specs.Puts.{Puts};
 ghost use Rattle.writer.specs.Blocks.{blockForm};
 
@@ -30,7 +30,7 @@ pub fn write(
 ) -> Writing
     ensures answer { λ r. ⌜ writingIs r ≡ writing (now (text .entry)) (now (styles .entry)) (now (regions .entry)) (now (cues .entry)) (length (now (out .entry))) ⌝ }
     ensures out { λ r. ⌜ now (out .exit) ≡ writtenRoom (now (text .entry)) (now (styles .entry)) (now (regions .entry)) (now (cues .entry)) (now (out .entry)) ⌝ }
-    ensures back { λ r. ⌜ ((n : ℕ) → r ≡ Answer.File n → ReadBack (contentsOfRows (now (text .entry)) (now (styles .entry)) (now (regions .entry)) (now (cues .entry))) (take n (now (out .exit)))) ⌝ }
+    ensures back { λ r. ⌜ ((n : ℕ) → r ≡ Cases.File n → ReadBack (contentsOfRows (now (text .entry)) (now (styles .entry)) (now (regions .entry)) (now (cues .entry))) (take n (now (out .exit)))) ⌝ }
 {
     if let Checked::NotWritable { list, index, test } = checking::check(
         text,

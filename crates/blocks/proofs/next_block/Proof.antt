@@ -12,7 +12,7 @@ use Rattle.laws.proofs.Runs.{run-stop}
 use Rattle.format.specs.Blocks.{between, blocksFrom}
 use Rattle.blocks.specs.Collecting.{linesFrom}
 use Rattle.blocks.proofs.LineLaws.{inLine, lineAt, lineFrom, lines-next}
-use Rattle.blocks.proofs.BlockLaws.{fresh-empty, fresh-behind, block-at}
+use Rattle.blocks.proofs.BlockLaws.{fresh-empty, fresh-after, block-at}
 use borrow.Author.Needs.{needs}
 use Rattle.blocks.proofs.next_block.Statement.{statement}
 use Rattle.blocks.proofs.next_block.Tie as tie
@@ -63,7 +63,7 @@ returns-2 : tie.Need-returns-2 Inv-loop μ-loop
 returns-2 c =
     let at = c .before in
     let s = at .before .before .args .s .now in
-    at .loop .inv .1 ∙ fresh-behind s (at .loop .i) (omega arith)
+    at .loop .inv .1 ∙ fresh-after s (at .loop .i) (omega arith)
 
 pub next-block-spec : {M : Type 1} → statement M
 next-block-spec = tie.close (tie.spec Inv-loop μ-loop loop-holds shared-slice-read-if1 collect-requires returns add-i loop-less loop-again returns-2)

@@ -5,7 +5,7 @@ use native.Mathlib.Omega.{arith}
 use lib.ListN.{length}
 use Rattle.laws.proofs.Runs.{run-length}
 use Rattle.blocks.proofs.LineLaws.{inLine}
-use Rattle.blocks.proofs.BlockLaws.{header-at, blocks-behind, no-blocks}
+use Rattle.blocks.proofs.BlockLaws.{header-at, blocks-after, no-blocks}
 use borrow.Author.Needs.{needs}
 use Rattle.blocks.proofs.past_header.Statement.{statement}
 use Rattle.blocks.proofs.past_header.Tie as tie
@@ -34,7 +34,7 @@ returns-2 c =
     let s = found .before .before .args .s .now in
     let e = found .past .result in
     let head = header-at s (e + 1) (omega (arith, inside (c .before))) in
-    rw (c .collect .ensures) (head .1, blocks-behind s e (found .past .ensures) ∙ head .0)
+    rw (c .collect .ensures) (head .1, blocks-after s e (found .past .ensures) ∙ head .0)
 
 pub past-header-spec : {M : Type 1} → statement M
 past-header-spec = tie.close (tie.spec past-requires returns add-collect collect-requires returns-2)

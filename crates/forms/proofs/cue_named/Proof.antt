@@ -8,7 +8,7 @@ use borrow.Author.Needs.{needs}
 use Rattle.forms.proofs.cue_named.Statement.{statement}
 use Rattle.forms.proofs.cue_named.Tie as tie
 use Rattle.forms.proofs.line_before.Reads as line-before-reads
-use Rattle.forms.proofs.line_behind.Reads as line-behind-reads
+use Rattle.forms.proofs.line_after.Reads as line-after-reads
 use Rattle.forms.proofs.timing_line.Reads as timing-line-reads
 use Rattle.rows.proofs.cues.id.Reads as id-reads
 use Rattle.rows.proofs.cues.text.Reads as text-reads
@@ -32,8 +32,8 @@ text-requires c κs = search needs
 part-requires-2 : tie.Need-part-requires-2
 part-requires-2 c κs = search needs
 
-line-behind-requires : tie.Need-line-behind-requires
-line-behind-requires c κs = search needs
+line-after-requires : tie.Need-line-after-requires
+line-after-requires c κs = search needs
 
 same-length : tie.Need-same-length
 same-length c = search needs
@@ -54,7 +54,7 @@ returns c =
       ← id .before .before .part .ensures,
       ← text .before .before .part2 .ensures,
     )
-    (id .line-before .ensures then timing .timing-line .ensures then text .line-behind .ensures)
+    (id .line-before .ensures then timing .timing-line .ensures then text .line-after .ensures)
 
 pub cue-named-spec : {M : Type 1} → statement M
 cue-named-spec =
@@ -66,6 +66,6 @@ cue-named-spec =
     timing-line-requires
     text-requires
     part-requires-2
-    line-behind-requires
+    line-after-requires
     same-length
     returns)

@@ -3,14 +3,14 @@ use native.Mathlib.Omega.{arith}
 use Rattle.output.proofs.PutLaws.{_then_, puts-none}
 use Rattle.forms.proofs.FormLaws.{ended-setting}
 use Rattle.values.proofs.NumberLaws.{empty-is, is-empty-not}
-use Rattle.format.specs.Lines.{endedLines}
+use Rattle.format.specs.Lines.{afterLineEnds}
 use Rattle.format.specs.Written.{writtenId}
 use borrow.Author.Needs.{needs}
 use Rattle.forms.proofs.identifier.Statement.{statement}
 use Rattle.forms.proofs.identifier.Tie as tie
 
 returns : tie.Need-returns
-unfolding writtenId endedLines
+unfolding writtenId afterLineEnds
 returns c = let args = c .before .before .before .args in rw (empty-is (args .id .now) (c .if1 .taken)) (puts-none (args .at) (args .out .now))
 
 slice-aggregate-bytes : tie.Need-slice-aggregate-bytes

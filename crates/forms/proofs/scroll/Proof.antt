@@ -1,6 +1,6 @@
 -- `forms::scroll` meets its contract.
 use Rattle.output.proofs.PutLaws.{puts-none}
-use Rattle.format.specs.Lines.{endedLines}
+use Rattle.format.specs.Lines.{afterLineEnds}
 use Rattle.format.specs.Written.{setting, writtenScroll}
 use borrow.Author.Needs.{needs}
 use Rattle.forms.proofs.scroll.Statement.{statement}
@@ -19,14 +19,14 @@ bytes-requires : tie.Need-bytes-requires
 bytes-requires c κs = search needs
 
 returns : tie.Need-returns
-unfolding writtenScroll endedLines
+unfolding writtenScroll afterLineEnds
 returns c = let args = c .before .before .before .args in rw (c .enum-told .given .1) (puts-none (args .at) (args .out .now))
 
 same-length : tie.Need-same-length
 same-length c = search needs
 
 returns-2 : tie.Need-returns-2
-unfolding writtenScroll endedLines setting
+unfolding writtenScroll afterLineEnds setting
 returns-2 c = let put = c .before .before in rw (put .before .before .before .enum-told2 .given .1) (put .bytes .ensures)
 
 pub scroll-spec : {M : Type 1} → statement M

@@ -4,7 +4,7 @@ use mathlib.Core.Path.{_≡_, sym, _∙_}
 use native.Mathlib.Omega.{arith}
 use lib.ListN.{length, take, drop, length-drop}
 use lib.Seq.{length-take-le, take-all}
-use Rattle.mending.proofs.MendLaws.{behind-line}
+use Rattle.mending.proofs.MendLaws.{after-line}
 use borrow.Author.Needs.{needs}
 use Rattle.mending.proofs.mend.Statement.{statement}
 use Rattle.mending.proofs.mend.Tie as tie
@@ -18,8 +18,8 @@ returns c = search needs
 returns-2 : tie.Need-returns-2
 returns-2 c = search needs
 
-add-behind : tie.Need-add-behind
-add-behind c = search needs
+add-after : tie.Need-add-after
+add-after c = search needs
 
 slice-aggregate-mend-line : tie.Need-slice-aggregate-mend-line
 slice-aggregate-mend-line c = sym (length-take-le _ _ (omega arith))
@@ -47,10 +47,10 @@ returns-3 c =
     let input = c .before .before .before .before .before .before .before .before .before .before .before .before .before .before .before .args .input .now in
     let past = c .before .before .before .before .before .before .before .before .before .before .before .past in
     let done = c .before .before .before .before .mend-line .ensures in
-    let behind = past .result + 1 in
-    let all : take (length input - behind) (drop behind input) ≡ drop behind input =
-    take-all (length input - behind) (drop behind input) (omega (arith, length-drop behind input)) in
-    rw (behind-line input (past .result) (past .ensures) ∙ sym all) (done .0, done .1)
+    let beyond = past .result + 1 in
+    let all : take (length input - beyond) (drop beyond input) ≡ drop beyond input =
+    take-all (length input - beyond) (drop beyond input) (omega (arith, length-drop beyond input)) in
+    rw (after-line input (past .result) (past .ensures) ∙ sym all) (done .0, done .1)
 
 pub mend-spec : {M : Type 1} → statement M
 mend-spec =
@@ -59,7 +59,7 @@ mend-spec =
     past-requires
     returns
     returns-2
-    add-behind
+    add-after
     slice-aggregate-mend-line
     sub-mend-line
     part-mend-line-start

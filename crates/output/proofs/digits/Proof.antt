@@ -16,7 +16,7 @@ abbrev Inv-loop : tie.InvT-loop
 Inv-loop k n out₀ at left₀ to₀ out left to =
     (left ≤ k)
     × (length out ≡ length out₀)
-    × ((behind : ℕ) (room : List ℕ) → Puts (lastDigits left n) to out behind room → Puts (lastDigits k n) at out₀ behind room)
+    × ((beyond : ℕ) (room : List ℕ) → Puts (lastDigits left n) to out beyond room → Puts (lastDigits k n) at out₀ beyond room)
 
 abbrev μ-loop : tie.MeasureT-loop
 μ-loop k n out₀ at left₀ to₀ out left to = left
@@ -46,7 +46,7 @@ loop-again c =
     let one = puts-as (ap (λ d. d ∷ []) e) (put .byte .ensures) in (
       omega arith,
       puts-length (put .byte .ensures) ∙ at .loop .inv .1,
-      λ behind room f. at .loop .inv .2 behind room (puts-as (sym (digits-first-of left n (omega arith))) (byte-then one f)),
+      λ beyond room f. at .loop .inv .2 beyond room (puts-as (sym (digits-first-of left n (omega arith))) (byte-then one f)),
     )
 
 same-length : tie.Need-same-length Inv-loop μ-loop

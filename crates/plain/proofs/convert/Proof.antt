@@ -51,7 +51,7 @@ mul-if2 c = omega arith
 measure-requires : tie.Need-measure-requires
 measure-requires c κs = search needs
 
--- behind the byte order mark stands the whole text
+-- after the byte order mark stands the whole text
 whole :
     (c : tie.After-mark-len)
     → let raw = c .before .before .before .before .args .raw .now in length (toPlain (drop (c .mark-len .result) raw)) ≡ length (plainText raw)

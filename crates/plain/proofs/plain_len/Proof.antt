@@ -55,7 +55,7 @@ returns-3 c =
     let none = sym (c .if4 .taken) ∙ c .before .sequence-at .ensures in
     omega (arith, plain-at-broken (at .before .before .args .s .now) (at .loop .i) (omega arith) none)
 
--- a sequence stands at i: the text goes on behind it
+-- a sequence stands at i: the text goes on after it
 passed :
     (c : tie.Else4 Inv-loop μ-loop)
     → let at = c .before .before .before .before .before .before .before .before in

@@ -86,7 +86,7 @@ loop-again c =
 piece-at-requires : tie.Need-piece-at-requires Inv-loop μ-loop
 piece-at-requires c κs = omega arith
 
--- what the piece becomes has room behind what is written
+-- what the piece becomes has room after what is written
 room-for :
     (c : tie.After-piece-at Inv-loop μ-loop)
     → c .before .before .before .before .before .loop .n + sizeOf (c .piece-at .result)

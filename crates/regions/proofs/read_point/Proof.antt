@@ -4,11 +4,11 @@ use mathlib.Core.Path.{_≡_, sym, _∙_}
 use native.Mathlib.Omega.{arith}
 use lib.ListN.{length, take, drop}
 use Rattle.format.specs.Bytes.{comma}
-use Rattle.format.specs.Texts.{beforeFirst, behindFirst}
+use Rattle.format.specs.Texts.{beforeFirst, afterFirst}
 use Rattle.format.specs.Numbers.{percentage}
 use Rattle.format.specs.RegionSettings.{point}
 use Rattle.values.specs.Numbers.{percentageIs}
-use Rattle.values.proofs.CutLaws.{front, has-not, has-one, behind, first-is, upto, before-length}
+use Rattle.values.proofs.CutLaws.{front, has-not, has-one, beyond, first-is, upto, before-length}
 use Rattle.regions.specs.Changes.{pointIs}
 use Rattle.regions.proofs.ChangeLaws.{pointFrom, point-is}
 use borrow.Author.Needs.{needs}
@@ -49,8 +49,8 @@ point-here c =
     let x = found .before .before .args .value .now in
     let k = found .past .result in
     rw
-    (has-one comma x k (comma-at found) (within c), front comma x k (comma-at found), behind comma x k (comma-at found) (within c))
-    (point-is (percentage (beforeFirst comma x)) (percentage (behindFirst comma x)))
+    (has-one comma x k (comma-at found) (within c), front comma x k (comma-at found), beyond comma x k (comma-at found) (within c))
+    (point-is (percentage (beforeFirst comma x)) (percentage (afterFirst comma x)))
 
 read-percentage-requires : tie.Need-read-percentage-requires
 read-percentage-requires c κs = search needs

@@ -65,8 +65,7 @@ returns c =
     let made = called .replace-in .ensures in
     let is = rw (known .n .given .1) at (told .0) in
     let answer : replacingIs (called .replace-in .result) ≡ replacing (args .raw .now) (args .number) (args .text .now) (args .row) (length (args .scratch .now)) (length (args .out .now)) = rw (← is) (made .answer) in
-    let room : called .replace-in .last .1 .0 ≡ replacedRoom (args .raw .now) (args .number) (args .text .now) (args .row) (length (args .scratch .now)) (args .out .now) = rw (← is) (made .holds) in
-    (answer, (told .1, (room, room-replaced (args .raw .now) (args .number) (args .text .now) (args .row) (length (args .scratch .now)) (args .out .now) _ (called .replace-in .result) answer room)))
+    (answer, (told .1, (rw (← is) (made .holds), room-replaced (args .raw .now) (args .number) (args .text .now) (args .row) (length (args .scratch .now)) (args .out .now) _ (called .replace-in .result) answer (rw (← is) (made .holds)))))
 
 same-length-3 : tie.Need-same-length-3
 same-length-3 c = search needs

@@ -1,5 +1,6 @@
 -- `replace::replace_in` meets its contract.
-use mathlib.Core.Path.{_≡_}
+use mathlib.Core.Path.{_≡_, ap, _∙_}
+use Rattle.format.specs.Texts.{bytesAt}
 use mathlib.Core.Bool.{true}
 use Rattle.format.specs.Blocks.{hasSignature}
 use Rattle.format.specs.Lists.{items, anyOver}
@@ -10,11 +11,8 @@ use borrow.Author.Needs.{needs}
 use Rattle.replace.proofs.replace_in.Statement.{statement}
 use Rattle.replace.proofs.replace_in.Tie as tie
 
-array-read-part : tie.Need-array-read-part
-array-read-part c = search needs
-
-array-read-part-2 : tie.Need-array-read-part-2
-array-read-part-2 c = search needs
+new-cue-name-requires : tie.Need-new-cue-name-requires
+new-cue-name-requires c κs = search needs
 
 part-requires : tie.Need-part-requires
 part-requires c κs = search needs
@@ -32,17 +30,20 @@ enum-known-found : tie.Need-enum-known-found
 enum-known-found c = search needs
 
 abbrev start-of : tie.After-survey → tie.Start
-start-of asked = asked .before .before .before .before .before .before
+start-of asked = asked .before .before .before .before .before .before .before
 
 -- the name that was looked for is the one lent
 found-in :
     (told : tie.After-found)
     → let args = start-of (told .before .before) .args in
-    FoundIn (args .s .now) (args .number) (nameLent (args .text .now) (args .t5)) (told .found .given .0 .0)
+    FoundIn (args .s .now) (args .number) (nameLent (args .text .now) (args .row)) (told .found .given .0 .0)
 unfolding nameLent
 found-in told =
     let asked = told .before .before in
-    rw (told .found .given .1, asked .before .part .ensures) at (asked .survey .ensures)
+    let part = asked .before in
+    let args = start-of asked .args in
+    let name = part .part .ensures ∙ ap (λ p. bytesAt (args .text .now) (p .from) (p .to)) (part .before .new-cue-name .ensures) in
+    rw (told .found .given .1, name) at (asked .survey .ensures)
 
 replace-counted-requires : tie.Need-replace-counted-requires
 replace-counted-requires c κs =
@@ -54,7 +55,7 @@ returns c =
     let asked = c .before .before in
     let start = start-of asked in
     let args = start .args in
-    no-signature (args .raw .now) (args .number) (args .text .now) (args .t5) (args .out .now) (args .s .now) (start .pre) (rw (c .enum-told .given .1) at (asked .survey .ensures))
+    no-signature (args .raw .now) (args .number) (args .text .now) (args .row) (args .out .now) (args .s .now) (start .pre) (rw (c .enum-told .given .1) at (asked .survey .ensures))
 
 returns-2 : tie.Need-returns-2
 returns-2 c =
@@ -62,7 +63,7 @@ returns-2 c =
     let start = start-of asked in
     let args = start .args in
     let is : (hasSignature (args .s .now) ≡ true) × (anyOver (items (args .s .now)) ≡ true) = rw (c .enum-told2 .given .1) at (asked .survey .ensures) in
-    over-limit (args .raw .now) (args .number) (args .text .now) (args .t5) (args .out .now) (args .s .now) (start .pre) (is .0) (is .1)
+    over-limit (args .raw .now) (args .number) (args .text .now) (args .row) (args .out .now) (args .s .now) (start .pre) (is .0) (is .1)
 
 same-length : tie.Need-same-length
 same-length c = search needs
@@ -74,14 +75,13 @@ returns-3 c =
     let start = start-of (told .before .before) in
     let args = start .args in
     let is = found-in told in
-    file-passed (args .raw .now) (args .number) (args .text .now) (args .t5) (args .out .now) (args .s .now) (start .pre) (is .signature) (is .within) (done .replace-counted .ensures)
+    file-passed (args .raw .now) (args .number) (args .text .now) (args .row) (args .out .now) (args .s .now) (start .pre) (is .signature) (is .within) (done .replace-counted .ensures)
 
 pub replace-in-spec : {M : Type 1} → statement M
 replace-in-spec =
     tie.close
     (tie.spec
-    array-read-part
-    array-read-part-2
+    new-cue-name-requires
     part-requires
     survey-requires
     enum-told

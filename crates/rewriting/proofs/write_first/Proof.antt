@@ -52,7 +52,7 @@ returns c =
       first (args .r) (regions .least2 .result) (args .regions .now) (regions .least2 .ensures),
       first (args .c) (cues .least3 .result) (args .cues .now) (cues .least3 .ensures),
     )
-    (rw (called .write .ensures .0) at (c .written .ensures), called .write .ensures .1)
+    (rw (called .write .ensures .0) at (c .written .ensures), called .write .ensures .1 .0)
 
 pub write-first-spec : {M : Type 1} → statement M
 write-first-spec =

@@ -8,7 +8,7 @@ use lib.ListN.{length}
 use Rattle.format.specs.Bytes.{comma}
 use Rattle.format.specs.Texts.{beforeFirst}
 use Rattle.laws.proofs.Runs.{run-length}
-use Rattle.values.proofs.CutLaws.{has-not, has-one, behind, first-is}
+use Rattle.values.proofs.CutLaws.{has-not, has-one, beyond, first-is}
 use borrow.Author.Needs.{needs}
 use Rattle.setting_words.proofs.align_name.Statement.{statement}
 use Rattle.setting_words.proofs.align_name.Tie as tie
@@ -53,7 +53,7 @@ returns-2 c =
     let found = other .before in
     let x = found .before .before .args .value .now in
     let at = found .past .result in
-    rw (has-one comma x at (comma-at found) (within other), ← (behind comma x at (comma-at found) (within other))) (c .align-word .ensures)
+    rw (has-one comma x at (comma-at found) (within other), ← (beyond comma x at (comma-at found) (within other))) (c .align-word .ensures)
 
 pub align-name-spec : {M : Type 1} → statement M
 align-name-spec =

@@ -8,7 +8,7 @@ use Rattle.format.specs.Rows.{cueEntry}
 use Rattle.format.specs.Contents.{cueOfEntry}
 use Rattle.format.specs.Writable.{firstFailing, cueTest2, cueTest3, cueTest4, cueTest5, cueTests}
 use Rattle.writable.specs.Faults.{testNumber}
-use Rattle.writable.proofs.FaultLaws.{failed, passed, fails-front, fails-behind}
+use Rattle.writable.proofs.FaultLaws.{failed, passed, fails-front, fails-after}
 use borrow.Author.Needs.{needs}
 use Rattle.writable.proofs.cue_fields_test.Statement.{statement}
 use Rattle.writable.proofs.cue_fields_test.Tie as tie
@@ -71,7 +71,7 @@ returns-3 c =
     let first = p .before .before .before in
     rw (passed (first .before .test-1 .ensures) (first .if1 .left))
     (c .cue-numbers-test .ensures
-    ∙ ap testNumber (sym (fails-behind 2 (two p) (three p) (omega arith) (sym (parts-are p) ∙ c .before .if2 .left))))
+    ∙ ap testNumber (sym (fails-after 2 (two p) (three p) (omega arith) (sym (parts-are p) ∙ c .before .if2 .left))))
 
 pub cue-fields-test-spec : {M : Type 1} → statement M
 cue-fields-test-spec =

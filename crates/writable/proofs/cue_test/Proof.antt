@@ -6,7 +6,7 @@ use native.Mathlib.Omega.{arith}
 use Rattle.format.specs.Rows.{cueEntry}
 use Rattle.format.specs.Contents.{optionOf, cueOfEntry, cueOfRow}
 use Rattle.format.specs.Writable.{firstFailing, namesOf, cueTest1, cueTest6, cueTests, cueFails}
-use Rattle.writable.proofs.FaultLaws.{failed, passed, fails-front, fails-behind}
+use Rattle.writable.proofs.FaultLaws.{failed, passed, fails-front, fails-after}
 use borrow.Author.Needs.{needs}
 use Rattle.writable.proofs.cue_test.Statement.{statement}
 use Rattle.writable.proofs.cue_test.Tie as tie
@@ -32,7 +32,7 @@ after-fields :
 unfolding cueFails cueOfEntry cueTests
 after-fields c =
     let p = c .before in
-    sym (fails-behind 1 (fields p) (last p) (omega arith) (sym (p .cue-fields-test .ensures) ∙ c .if1 .left))
+    sym (fails-after 1 (fields p) (last p) (omega arith) (sym (p .cue-fields-test .ensures) ∙ c .if1 .left))
 
 region-is :
     (c : tie.After-region-fits)

@@ -3,11 +3,11 @@ use Prim.Native.Nat.{_+_}
 use mathlib.Core.Path.{_∙_}
 use native.Mathlib.Omega.{arith}
 use borrow.Author.Tests.{eq-eqb, ne-eqb, not-true, not-false}
-use Rattle.format.specs.Texts.{nowhere, isEmpty}
+use Rattle.format.specs.Texts.{emptyPart, isEmpty}
 use Rattle.format.specs.CueSettings.{spanIs}
 use Rattle.format.specs.TimingLines.{timingLine}
-use Rattle.blocks.specs.Items.{part, behindLine, meaningAt}
-use Rattle.blocks.proofs.ItemLaws.{part-of, span-part, behind-span, timed-is}
+use Rattle.blocks.specs.Items.{part, afterLine, meaningAt}
+use Rattle.blocks.proofs.ItemLaws.{part-of, span-part, after-span, timed-is}
 use borrow.Author.Needs.{needs}
 use Rattle.blocks.proofs.items.item_at.Statement.{statement}
 use Rattle.blocks.proofs.items.item_at.Tie as tie
@@ -29,8 +29,8 @@ returns-2 c =
     c .definition .ensures
     ∙ rw (not-true (a .stop .head .timed) (out .if1 .taken), ne-eqb (a .stop .head .first) (a .stop .to) (c .before .if2 .left))
 
-behind-line-requires : tie.Need-behind-line-requires
-behind-line-requires c κs = search needs
+after-line-requires : tie.Need-after-line-requires
+after-line-requires c κs = search needs
 
 timed-item-requires : tie.Need-timed-item-requires
 timed-item-requires c κs = search needs
@@ -46,13 +46,13 @@ returns-3 c =
     let to = a .stop .to in
     c .timed-item .ensures
     ∙ rw (
-      text .behind-line .ensures,
+      text .after-line .ensures,
       part-of s (a .from) (head .end) (omega arith) (omega arith),
-      behind-span s (head .end) to (omega arith) (omega arith),
+      after-span s (head .end) to (omega arith) (omega arith),
       not-false (head .timed) (out .if1 .left),
       eq-eqb (head .first) (head .end) (c .before .if3 .taken),
     )
-    (timed-is nowhere (behindLine s (head .end) to) (timingLine (part s (a .from) (head .end))))
+    (timed-is emptyPart (afterLine s (head .end) to) (timingLine (part s (a .from) (head .end))))
 
 add-timed-item : tie.Need-add-timed-item
 add-timed-item c = search needs
@@ -76,15 +76,15 @@ returns-4 c =
     let apart = other .if3 .left in
     c .timed-item2 .ensures
     ∙ rw (
-      text .behind-line .ensures,
+      text .after-line .ensures,
       c .before .span .ensures,
       part-of s (head .first + 1) (head .end) (omega (arith, apart)) (omega arith),
-      behind-span s (head .end) to (omega arith) (omega arith),
+      after-span s (head .end) to (omega arith) (omega arith),
       span-part s (a .from) (head .first) (omega arith) (omega arith),
       not-false (head .timed) (out .if1 .left),
       ne-eqb (head .first) (head .end) apart,
     )
-    (timed-is (part s (a .from) (head .first)) (behindLine s (head .end) to) (timingLine (part s (head .first + 1) (head .end))))
+    (timed-is (part s (a .from) (head .first)) (afterLine s (head .end) to) (timingLine (part s (head .first + 1) (head .end))))
 
 pub item-at-spec : {M : Type 1} → statement M
-item-at-spec = tie.close (tie.spec returns definition-requires returns-2 behind-line-requires timed-item-requires returns-3 add-timed-item span-requires timed-item-requires-2 returns-4)
+item-at-spec = tie.close (tie.spec returns definition-requires returns-2 after-line-requires timed-item-requires returns-3 add-timed-item span-requires timed-item-requires-2 returns-4)

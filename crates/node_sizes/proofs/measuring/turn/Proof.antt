@@ -54,8 +54,8 @@ enum-told-2 c = search needs
 enum-known-made : tie.Need-enum-known-made
 enum-known-made c = search needs
 
-behind-strings-requires : tie.Need-behind-strings-requires
-behind-strings-requires c κs =
+after-strings-requires : tie.Need-after-strings-requires
+after-strings-requires c κs =
     let l = c .before .before .before in
     let g = c .before .made .given in
     let long = node-length (s l) (token l) (m l) (words l) (g .0 .0) (g .0 .1 .0) (made l ∙ g .1) in
@@ -92,10 +92,10 @@ returns-3 c =
     let l = c .before .before .before .before .before .before .before .before in
     let g = c .before .before .before .before .before .before .made .given in
     passed-node (s l) (token l) (m l) (words l) (g .0 .0) (g .0 .1 .0) (made l ∙ g .1) (c .before .before .enter .result)
-    (c .before .before .before .before .behind-strings .result)
+    (c .before .before .before .before .after-strings .result)
     (c .before .before .enter .last .1 .1 .0)
     (c .before .before .enter .ensures)
-    (c .before .before .before .before .behind-strings .ensures)
+    (c .before .before .before .before .after-strings .ensures)
 
 pub turn-spec : {M : Type 1} → statement M
 turn-spec =
@@ -108,7 +108,7 @@ turn-spec =
     leave-requires
     enum-told-2
     enum-known-made
-    behind-strings-requires
+    after-strings-requires
     enter-requires
     add-t23
     same-length

@@ -36,13 +36,13 @@ unfolding bytesAt
 put-added-requires c κs =
     let at = c .before .before .before .before in
     let s = at .before .before .before .args .s .now in
-    (omega (arith, part-length s (at .loop .held) (at .loop .i) (at .loop .inv .behind) (at .loop .inv .within)), omega arith)
+    (omega (arith, part-length s (at .loop .held) (at .loop .i) (at .loop .inv .beyond) (at .loop .inv .within)), omega arith)
 
-shared-slice-read-held-behind : tie.Need-shared-slice-read-held-behind Inv-loop μ-loop
-shared-slice-read-held-behind c = omega arith
+shared-slice-read-held-after : tie.Need-shared-slice-read-held-after Inv-loop μ-loop
+shared-slice-read-held-after c = omega arith
 
-held-behind-requires : tie.Need-held-behind-requires Inv-loop μ-loop
-held-behind-requires c κs = omega arith
+held-after-requires : tie.Need-held-after-requires Inv-loop μ-loop
+held-after-requires c κs = omega arith
 
 add-i : tie.Need-add-i Inv-loop μ-loop
 add-i c = omega arith
@@ -57,7 +57,7 @@ loop-again c =
     let turn = put .before .before .before .before in
     let at = turn .before in
     let args = at .before .before .before .args in
-    rw (c .held-behind .ensures)
+    rw (c .held-after .ensures)
     (decoding-again (args .s .now) (args .at) (args .room .now) (at .loop .room) (at .loop .held) (at .loop .i) (at .loop .n) (at .loop .inv)
     (turn .loop-test .taken)
     (put .put-added .ensures))
@@ -107,8 +107,8 @@ decode-spec =
     part-put-added-end
     shared-slice-read-put-added
     put-added-requires
-    shared-slice-read-held-behind
-    held-behind-requires
+    shared-slice-read-held-after
+    held-after-requires
     add-i
     loop-less
     loop-again

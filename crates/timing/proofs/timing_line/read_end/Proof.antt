@@ -29,7 +29,7 @@ enum-told c = search needs
 enum-known-next : tie.Need-enum-known-next
 enum-known-next c = search needs
 
--- the arrow, and the whitespace behind it
+-- the arrow, and the whitespace after it
 arrowed :
     (c : tie.After-next)
     → let past = c .before .before .before in
@@ -43,15 +43,15 @@ arrowed c =
 past-requires-2 : tie.Need-past-requires-2
 past-requires-2 c κs = arrowed (c .before) .0
 
-behind :
+beyond :
     (c : tie.After-past2)
     → RunAt white (c .before .before .before .before .before .before .before .args .s .now) (c .before .before .next .given .0 .0) (c .past2 .result)
-behind c =
+beyond c =
     run-at white (c .before .before .before .before .before .before .before .args .s .now) (c .before .before .next .given .0 .0) (c .past2 .result)
     (arrowed (c .before .before) .0) (c .past2 .ensures)
 
 read-timestamp-requires : tie.Need-read-timestamp-requires
-read-timestamp-requires c κs = behind c .inside
+read-timestamp-requires c κs = beyond c .inside
 
 returns : tie.Need-returns
 returns c =
@@ -69,7 +69,7 @@ returns-2 c =
     let past = next .before .before .before in
     let args = past .before .before .args in
     let s = args .s .now in
-    let end = end-is s (args .at) (past .past .result) (whites past) (next .next .given .0 .0) (second .past2 .result) (arrowed next .1) (behind second) in
+    let end = end-is s (args .at) (past .past .result) (whites past) (next .next .given .0 .0) (second .past2 .result) (arrowed next .1) (beyond second) in
     c .read-timestamp .ensures ∙ ap (stampIs (length s)) (sym end)
 
 pub read-end-spec : {M : Type 1} → statement M

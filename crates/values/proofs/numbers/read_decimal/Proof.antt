@@ -49,9 +49,9 @@ returns-2 c =
 first-digit : (c : tie.Else1) → 0 < c .before .past .result
 first-digit c = omega arith
 
--- a byte stands behind the digits
-behind : (c : tie.Else2) → let found = c .before .before .before .before in found .past .result < length (found .before .before .args .s .now)
-behind c = omega (arith, ran (c .before .before .before .before) .inside)
+-- a byte stands after the digits
+beyond : (c : tie.Else2) → let found = c .before .before .before .before in found .past .result < length (found .before .before .args .s .now)
+beyond c = omega (arith, ran (c .before .before .before .before) .inside)
 
 shared-slice-read-if3 : tie.Need-shared-slice-read-if3
 shared-slice-read-if3 c = omega (arith, ran (c .before .before .before .before .before) .inside)
@@ -61,7 +61,7 @@ returns-3 c =
     let first = c .before .before .before .before .before in
     let found = first .before in
     let s = found .before .before .args .s .now in
-    sym (ap decimalIs (decimal-no-stop s (found .past .result) (ran found) (omega arith) (behind (c .before .before)) (c .if3 .taken)))
+    sym (ap decimalIs (decimal-no-stop s (found .past .result) (ran found) (omega arith) (beyond (c .before .before)) (c .if3 .taken)))
 
 add-from : tie.Need-add-from
 add-from c = omega (arith, ran (c .before .before .before .before .before .before) .inside)
@@ -70,14 +70,14 @@ returns-4 : tie.Need-returns-4
 returns-4 c =
     let found = c .before .before .before .before .before .before .before in
     let s = found .before .before .args .s .now in
-    sym (ap decimalIs (decimal-no-fraction s (found .past .result) (ran found) (omega arith) (behind (c .before .before .before)) (c .if4 .taken)))
+    sym (ap decimalIs (decimal-no-fraction s (found .past .result) (ran found) (omega arith) (beyond (c .before .before .before)) (c .if4 .taken)))
 
 past-requires-2 : tie.Need-past-requires-2
 past-requires-2 c κs = omega (arith, ran (c .before .before .before .before .before .before .before) .inside)
 
--- bytes stand behind the full stop
+-- bytes stand after the full stop
 fraction : (c : tie.Else4) → let found = c .before .before .before .before .before .before .before in found .past .result + 1 < length (found .before .before .args .s .now)
-fraction c = omega (arith, behind (c .before .before .before))
+fraction c = omega (arith, beyond (c .before .before .before))
 
 returns-5 : tie.Need-returns-5
 returns-5 c =
@@ -85,7 +85,7 @@ returns-5 c =
     let found = out .before .before .before .before .before .before .before .before in
     let s = found .before .before .args .s .now in
     let end = found .past .result in
-    let l = behind (out .before .before .before .before) in
+    let l = beyond (out .before .before .before .before) in
     let k = fraction (out .before) in
     let stops = run-not-all digit (drop (end + 1) s) (omega (arith, out .past2 .ensures, c .if5 .taken, length-drop (end + 1) s)) in
     sym (ap decimalIs (decimal-bad-fraction s end (ran found) (omega arith) l (out .before .before .if3 .left) k stops))
@@ -113,7 +113,7 @@ returns-6 c =
     let s = found .before .before .args .s .now in
     let end = found .past .result in
     let rest = drop (end + 1) s in
-    let l = behind (out .before .before .before .before) in
+    let l = beyond (out .before .before .before .before) in
     let k = fraction (out .before) in
     let part : take (length s - (end + 1)) rest ≡ rest = take-all (length s - (end + 1)) rest (omega (arith, length-drop (end + 1) s)) in
     let digits = all-run digit rest (omega (arith, out .past2 .ensures, test .if5 .left, length-drop (end + 1) s, run-length digit rest)) in

@@ -5,7 +5,7 @@ use native.Mathlib.Omega.{arith}
 use lib.ListN.{length, take}
 use lib.Seq.{length-take-le}
 use Rattle.format.specs.Numbers.{decimal}
-use Rattle.values.specs.Numbers.{percentageIs, shareOf}
+use Rattle.values.specs.Numbers.{percentageIs, percentageOf}
 use Rattle.values.proofs.NumberLaws.{share-is, percentage-short, percentage-other, percentage-is}
 use borrow.Author.Needs.{needs}
 use Rattle.values.proofs.numbers.read_percentage.Statement.{statement}
@@ -42,7 +42,7 @@ returns-3 c =
     let at = found .before .before in
     let s = at .before .before .before .before .args .s .now in
     c .share-of .ensures
-    ∙ ap shareOf (found .read-decimal .ensures)
+    ∙ ap percentageOf (found .read-decimal .ensures)
     ∙ share-is (decimal (take (length s - 1) s))
     ∙ sym (ap percentageIs (percentage-is s (omega arith) (at .if2 .left)))
 

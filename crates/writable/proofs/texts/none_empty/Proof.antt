@@ -1,4 +1,4 @@
--- `writable::texts::none_empty` meets its contract: the line that goes on at `i` and those behind it have none empty where the whole has none.
+-- `writable::texts::none_empty` meets its contract: the line that goes on at `i` and those after it have none empty where the whole has none.
 use Prim.Native.Nat.{_≤_, _-_}
 use mathlib.Core.Path.{_≡_, refl, sym, _∙_}
 use mathlib.Core.Bool.{true, false}

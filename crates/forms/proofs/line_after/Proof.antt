@@ -1,10 +1,10 @@
--- `forms::line_behind` meets its contract.
+-- `forms::line_after` meets its contract.
 use native.Mathlib.Omega.{arith}
 use Rattle.output.proofs.PutLaws.{byte-then, puts-none}
 use Rattle.values.proofs.NumberLaws.{empty-is, is-empty-not}
 use borrow.Author.Needs.{needs}
-use Rattle.forms.proofs.line_behind.Statement.{statement}
-use Rattle.forms.proofs.line_behind.Tie as tie
+use Rattle.forms.proofs.line_after.Statement.{statement}
+use Rattle.forms.proofs.line_after.Tie as tie
 
 returns : tie.Need-returns
 returns c = let args = c .before .before .before .args in rw (empty-is (args .s .now) (c .if1 .taken)) (puts-none (args .at) (args .out .now))
@@ -26,5 +26,5 @@ returns-2 c =
     let s = at .before .before .before .args .s .now in
     rw (is-empty-not s (omega arith)) (byte-then (end .byte .ensures) (text .bytes .ensures))
 
-pub line-behind-spec : {M : Type 1} → statement M
-line-behind-spec = tie.close (tie.spec returns byte-requires bytes-requires same-length returns-2)
+pub line-after-spec : {M : Type 1} → statement M
+line-after-spec = tie.close (tie.spec returns byte-requires bytes-requires same-length returns-2)

@@ -1,22 +1,22 @@
--- `strings::puts::held_behind` meets its contract.
+-- `strings::puts::held_after` meets its contract.
 use native.Mathlib.Omega.{arith}
 use mathlib.Core.Path.{refl, sym, _∙_}
 use borrow.Author.Tests.{eq-eqb, ne-eqb, lt-ltb, le-ltb}
 use Rattle.format.specs.Bytes.{ampersand}
-use Rattle.strings.specs.Turns.{heldBehind}
+use Rattle.strings.specs.Turns.{heldAfter}
 use borrow.Author.Needs.{needs}
-use Rattle.strings.proofs.puts.held_behind.Statement.{statement}
-use Rattle.strings.proofs.puts.held_behind.Tie as tie
+use Rattle.strings.proofs.puts.held_after.Statement.{statement}
+use Rattle.strings.proofs.puts.held_after.Tie as tie
 
 returns : tie.Need-returns
-unfolding heldBehind
+unfolding heldAfter
 returns c = rw (eq-eqb (c .before .args .c) ampersand (c .if1 .taken)) refl
 
 add-result : tie.Need-add-result
 add-result c = search needs
 
 returns-2 : tie.Need-returns-2
-unfolding heldBehind
+unfolding heldAfter
 returns-2 c =
     let args = c .before .before .args in
     rw (ne-eqb (args .c) ampersand (c .before .if1 .left), le-ltb (args .held) (args .i) (omega arith)) refl
@@ -25,7 +25,7 @@ is-alphanumeric-requires : tie.Need-is-alphanumeric-requires
 is-alphanumeric-requires c κs = search needs
 
 returns-3 : tie.Need-returns-3
-unfolding heldBehind
+unfolding heldAfter
 returns-3 c =
     let some = c .before .before in
     let args = some .before .before .args in
@@ -39,7 +39,7 @@ add-result-2 : tie.Need-add-result-2
 add-result-2 c = search needs
 
 returns-4 : tie.Need-returns-4
-unfolding heldBehind
+unfolding heldAfter
 returns-4 c =
     let some = c .before .before in
     let args = some .before .before .args in
@@ -49,8 +49,8 @@ returns-4 c =
       sym (c .before .is-alphanumeric .ensures) ∙ c .if3 .left,
     ) refl
 
-pub held-behind-spec : {M : Type 1} → statement M
-held-behind-spec =
+pub held-after-spec : {M : Type 1} → statement M
+held-after-spec =
     tie.close
     (tie.spec
     returns

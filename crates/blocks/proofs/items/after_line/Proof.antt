@@ -1,8 +1,8 @@
--- `blocks::items::behind_line` meets its contract.
+-- `blocks::items::after_line` meets its contract.
 use borrow.Author.Tests.{eq-eqb, ne-eqb}
 use borrow.Author.Needs.{needs}
-use Rattle.blocks.proofs.items.behind_line.Statement.{statement}
-use Rattle.blocks.proofs.items.behind_line.Tie as tie
+use Rattle.blocks.proofs.items.after_line.Statement.{statement}
+use Rattle.blocks.proofs.items.after_line.Tie as tie
 
 returns : tie.Need-returns
 returns c = let a = c .before .args in rw (eq-eqb (a .end) (a .to) (c .if1 .taken))
@@ -16,5 +16,5 @@ span-requires c κs = search needs
 returns-2 : tie.Need-returns-2
 returns-2 c = let a = c .before .before .args in rw (c .span .ensures, ne-eqb (a .end) (a .to) (c .before .if1 .left))
 
-pub behind-line-spec : {M : Type 1} → statement M
-behind-line-spec = tie.close (tie.spec returns add-span span-requires returns-2)
+pub after-line-spec : {M : Type 1} → statement M
+after-line-spec = tie.close (tie.spec returns add-span span-requires returns-2)
