@@ -12,7 +12,7 @@ use Rattle.format.specs.RegionSettings.{regionSettings, regionIs}
 use Rattle.format.specs.TimingLines.{Timing, timingLine}
 use Rattle.format.specs.Lines.{split}
 use Rattle.format.specs.Blocks.{Line, between, blocksFrom, bytesOf}
-use Rattle.format.specs.CueSettings.{spanIs, noSpan, settingsIs}
+use Rattle.format.specs.CueSettings.{spanIs, noSpan}
 use Rattle.format.specs.Lists.{Cue, Item, nothing, cue, style, region, regionOf, isWord, meaning}
 use Rattle.format.specs.Replacing.{firstNumber}
 use Rattle.format.specs.declared.settings.Span.{Span}
@@ -39,7 +39,7 @@ afterLine s e to = cond (eqb e to) emptyPart (part s (e + 1) to)
 abbrev pub cueWith : Part → Part → Option Timing → Item
 cueWith id text none = nothing
 cueWith id text (some t) =
-    cue (record { id = id; start = t .start; end = t .end; settings = t .settings; text = text }) (t .over)
+    cue (record { id = id; start = t .start; end = t .end; settings = t .settings; region = t .region; text = text }) (t .over)
 
 abbrev pub definitionWith : Bool → List ℕ → Part → Item
 definitionWith seen first text =
@@ -88,7 +88,7 @@ NextIs s at (Next.Block from st) = NextAt s at from st
 
 -- what a block gives, as the code holds it
 abbrev pub cueIs : Cue → CueRead
-cueIs c = record { id = spanIs (c .id); start = c .start; end = c .end; settings = settingsIs (c .settings); text = spanIs (c .text) }
+cueIs c = record { id = spanIs (c .id); start = c .start; end = c .end; settings = c .settings; region = spanIs (c .region); text = spanIs (c .text) }
 
 abbrev pub itemIs : Item → Made.Item
 itemIs nothing = Read.Nothing
@@ -111,7 +111,7 @@ abbrev pub timedIs : Span → Span → TimingLine → Made.Item
 timedIs id text TimingLine.Bad = Read.Nothing
 timedIs id text TimingLine.Over = Read.Over
 timedIs id text (TimingLine.Good t) =
-    Read.Cue (record { id = id; start = t .start; end = t .end; settings = t .settings; text = text })
+    Read.Cue (record { id = id; start = t .start; end = t .end; settings = t .settings; region = t .region; text = text })
 
 abbrev pub regionItem : RegionTaken → Made.Item
 regionItem t = cond (t .over) Read.Over (Read.Region (t .region))

@@ -20,8 +20,9 @@ pub struct CueRead {
     // In milliseconds.
     pub start: u64,
     pub end: u64,
-    // Its region is the name that was asked for.
     pub settings: Settings,
+    // The name of the region that was asked for.
+    pub region: Span,
     pub text: Span,
 }
 
@@ -67,11 +68,13 @@ fn timed_item(s: &[u8], from: usize, to: usize, id: Span, text: Span) -> Item
         TimingLine::Over => Item::Over,
         TimingLine::Good(read) => {
             let settings = read.settings;
+            let region = read.region;
             Item::Cue(CueRead {
                 id,
                 start: read.start,
                 end: read.end,
                 settings,
+                region,
                 text,
             })
         }

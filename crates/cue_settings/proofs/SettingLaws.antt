@@ -1,133 +1,128 @@
--- Settings by the code's tests: values split at a comma, and what a token changes.
+-- Settings by the code's answers: a setting by its name, its numbers by what reading them told, and the fold over tokens.
 use Prim.Native.Nat.{ℕ}
-use mathlib.Core.Path.{_≡_, refl}
-use mathlib.Core.Bool.{true, false, _||_}
+use mathlib.Core.Path.{_≡_, refl, ap, _∙_}
+use mathlib.Core.Bool.{Bool, true, false, cond, _||_}
 use mathlib.Core.List.{List, [], _∷_}
 use mathlib.Core.Option.{Option, none, some}
 use lib.Dec.{eqb}
-use Rattle.format.specs.Bytes.{ascii, comma, percent}
-use Rattle.format.specs.Texts.{Part, isEmpty, same, endsWith, beforeFirst}
+use Rattle.format.specs.Bytes.{ascii, percent}
+use Rattle.format.specs.Texts.{Part, emptyPart, isEmpty, same, endsWith}
 use Rattle.format.specs.Numbers.{percentage, LineNumber, lineNumber, overLine, isNegative, millionths}
-use Rattle.format.specs.Tokens.{nameOf, valueOf}
-use Rattle.format.specs.CueSettings.{CueSettings, Taken, taken, isHorizontal, settingsIs, spanIs, direction, lineAlign, positionAlign, setRegion, setVertical, setLine, linePercentage, lineCounted, lineSetting, setPosition, positionGiven, positionSetting, setSize, sizeOf, setAlign, named, cueSetting, settingsFrom}
-use Rattle.format.specs.declared.settings.Direction.{Direction}
-use Rattle.format.specs.declared.settings.LinePlace.{LinePlace}
+use Rattle.format.specs.Tokens.{valueOf, Flagged, folded}
+use Rattle.format.specs.CueSettings.{CueSettings, settingsAfter, nameAfter, isHorizontal, isOver, direction, linePercentage, lineCounted, lineAligned, lineChange}
+use Rattle.format.specs.CueSettings.{positionChange, positionAligned, sizeChange, alignment, named, cueChange, changed, cueSetting, spanIs, noSpan}
+use Rattle.format.specs.declared.settings.Settings.{Settings}
+use Rattle.format.specs.declared.settings.Change.{Change}
+use Rattle.format.specs.declared.settings.Change.the-variants as Change
 use Rattle.format.specs.declared.settings.LineAlign.{LineAlign}
 use Rattle.format.specs.declared.settings.PositionAlign.{PositionAlign}
 use Rattle.format.specs.declared.settings.Line.the-variants as Line
+use Rattle.format.specs.declared.settings.Position.the-variants as Position
 use Rattle.laws.proofs.Tests.{by-test}
-use Rattle.cue_settings.specs.declared.steps.Change.{Change}
-use Rattle.cue_settings.specs.declared.steps.Change.the-variants as Change
 use Rattle.values.specs.Numbers.{percentageIs, lineNumberIs}
-use Rattle.setting_words.specs.Words.{cueNameIs, positionAlignedIs}
-use Rattle.cue_settings.specs.Steps.{linePercentageChange, lineNumberChange, lineChange, positionWith, sizeChange, namedChange, changeOf, applied, isOver, stepIs, foldIs, takenIs}
+use Rattle.values.specs.declared.numbers.Percentage.{Percentage}
+use Rattle.values.specs.declared.numbers.Percentage.the-variants as Percentage
+use Rattle.values.specs.declared.numbers.LineNumber.{LineNumber as Told}
+use Rattle.values.specs.declared.numbers.LineNumber.the-variants as Told
+use Rattle.setting_words.specs.Words.{cueNameIs, lineAlignedIs, positionAlignedIs}
+use Rattle.setting_words.specs.declared.CueName.{CueName}
+use Rattle.setting_words.specs.declared.CueName.the-variants as CueName
+use Rattle.setting_words.specs.declared.LineAligned.{LineAligned}
+use Rattle.setting_words.specs.declared.LineAligned.the-variants as LineAligned
+use Rattle.setting_words.specs.declared.PositionAligned.{PositionAligned}
+use Rattle.setting_words.specs.declared.PositionAligned.the-variants as PositionAligned
+use Rattle.cue_settings.specs.Steps.{stepIs, foldIs, takenIs}
 
--- the code's change is the definition's setting
-pub record Agrees (h : Change) (c : CueSettings) (t : Taken) : Type 0 where
-  pub same : applied h (settingsIs c) ≡ settingsIs (t .settings)
-  pub over : isOver h ≡ t .over
+-- a change by what the code was told
+abbrev pub percentageTold : Percentage → LineAlign → Change
+percentageTold Percentage.Bad a = Change.Nothing
+percentageTold (Percentage.Good n) a = Change.Line (record { line = Line.At false n; snap = false; align = a })
 
-abbrev unchanged : (c : CueSettings) → Agrees Change.Nothing c (taken c)
-unchanged c = record { same = refl; over = refl }
-
-vertical-agrees : (d : Direction) (c : CueSettings) → Agrees (Change.Vertical d) c (taken (setVertical d c))
-unfolding setVertical spanIs isEmpty
-vertical-agrees d c =
-    by-test (isHorizontal d)
-    (λ y. record { same = rw y; over = refl })
-    (λ n. record { same = rw n; over = refl })
-
-size-agrees : (n : ℕ) (c : CueSettings) → Agrees (Change.Size n) c (taken (setSize n c))
-unfolding setSize spanIs isEmpty
-size-agrees n c =
-    by-test (eqb n 100_000_000)
-    (λ y. record { same = rw y; over = refl })
-    (λ z. record { same = rw z; over = refl })
-
-line-set : (p : LinePlace) (c : CueSettings) → Agrees (Change.Line p) c (taken (setLine p c))
-unfolding setLine spanIs isEmpty
-line-set p c = record { same = refl; over = refl }
-
-share-agrees : (o : Option ℕ) (a : LineAlign) (c : CueSettings) → Agrees (linePercentageChange (percentageIs o) a) c (linePercentage o (some a) c)
+pub percentage-told : (o : Option ℕ) (a : LineAlign) → linePercentage o a ≡ percentageTold (percentageIs o) a
 unfolding linePercentage
-share-agrees none a c = unchanged c
-share-agrees (some n) a c = line-set (record { line = Line.At false n; snap = false; align = a }) c
+percentage-told none a = refl
+percentage-told (some n) a = refl
 
-number-agrees : (o : Option LineNumber) (a : LineAlign) (c : CueSettings) → Agrees (lineNumberChange (lineNumberIs o) a) c (lineCounted o (some a) c)
+abbrev pub numberTold : Told → LineAlign → Change
+numberTold Told.Bad a = Change.Nothing
+numberTold Told.Over a = Change.Over
+numberTold (Told.Good m n) a = Change.Line (record { line = Line.At m n; snap = true; align = a })
+
+pub number-told : (o : Option LineNumber) (a : LineAlign) → lineCounted o a ≡ numberTold (lineNumberIs o) a
 unfolding lineCounted
-number-agrees none a c = unchanged c
-number-agrees (some n) a c =
-    by-test (overLine n)
-    (λ y. rw y (record { same = refl; over = refl }))
-    (λ z. rw z (line-set (record { line = Line.At (isNegative n) (millionths (n .size)); snap = true; align = a }) c))
+number-told none a = refl
+number-told (some n) a = by-test (overLine n) (λ y. rw y refl) (λ z. rw z refl)
 
--- without an alignment nothing is set
-no-share : (o : Option ℕ) (c : CueSettings) → linePercentage o none c ≡ taken c
-unfolding linePercentage
-no-share none c = refl
-no-share (some n) c = refl
+abbrev pub alignedTold : List ℕ → LineAligned → Change
+alignedTold place LineAligned.Bad = Change.Nothing
+alignedTold place (LineAligned.Good a) =
+    cond (endsWith percent place) (linePercentage (percentage place) a) (lineCounted (lineNumber place) a)
 
-no-number : (o : Option LineNumber) (c : CueSettings) → lineCounted o none c ≡ taken c
-unfolding lineCounted
-no-number none c = refl
-no-number (some n) c = refl
+pub aligned-told : (place : List ℕ) (o : Option LineAlign) → lineAligned place o ≡ alignedTold place (lineAlignedIs o)
+unfolding lineAligned
+aligned-told place none = refl
+aligned-told place (some a) = refl
 
-line-agrees : (x : List ℕ) (c : CueSettings) → Agrees (lineChange x (c .line .align)) c (lineSetting x c)
-unfolding lineSetting
-line-agrees x c = go (lineAlign x (c .line .align)) refl
-  where
-    go : (o : Option LineAlign) → lineAlign x (c .line .align) ≡ o → Agrees (lineChange x (c .line .align)) c (lineSetting x c)
-    go none e =
-        by-test (endsWith percent (beforeFirst comma x))
-        (λ y. rw (e, y, no-share (percentage (beforeFirst comma x)) c) (unchanged c))
-        (λ z. rw (e, z, no-number (lineNumber (beforeFirst comma x)) c) (unchanged c))
-    go (some a) e =
-        by-test (endsWith percent (beforeFirst comma x))
-        (λ y. rw (e, y) (share-agrees (percentage (beforeFirst comma x)) a c))
-        (λ z. rw (e, z) (number-agrees (lineNumber (beforeFirst comma x)) a c))
+abbrev pub positionTold : Percentage → PositionAligned → Change
+positionTold Percentage.Bad a = Change.Nothing
+positionTold (Percentage.Good n) PositionAligned.Bad = Change.Nothing
+positionTold (Percentage.Good n) (PositionAligned.Good a) = Change.Position (record { position = Position.At n; align = a })
 
-position-agrees :
-    (o : Option ℕ) (a : Option PositionAlign) (c : CueSettings)
-    → Agrees (positionWith (percentageIs o) (positionAlignedIs a)) c (taken (positionGiven o a c))
-unfolding positionGiven setPosition
-position-agrees none a c = unchanged c
-position-agrees (some n) none c = unchanged c
-position-agrees (some n) (some a) c = record { same = refl; over = refl }
+pub position-told : (o : Option ℕ) (a : Option PositionAlign) → positionAligned o a ≡ positionTold (percentageIs o) (positionAlignedIs a)
+unfolding positionAligned
+position-told none a = refl
+position-told (some n) none = refl
+position-told (some n) (some a) = refl
 
-sized-agrees : (o : Option ℕ) (c : CueSettings) → Agrees (sizeChange (percentageIs o)) c (taken (sizeOf o c))
-unfolding sizeOf
-sized-agrees none c = unchanged c
-sized-agrees (some n) c = size-agrees n c
+abbrev pub sizeTold : Percentage → Change
+sizeTold Percentage.Bad = Change.Nothing
+sizeTold (Percentage.Good n) = Change.Size n
 
-named-agrees : (name : List ℕ) (x : Part) (c : CueSettings) → Agrees (namedChange (cueNameIs name) x (settingsIs c)) c (named name x c)
-unfolding named setRegion setAlign positionSetting
-named-agrees name x c =
-    by-test (same name (ascii "region")) (λ y. rw y (record { same = refl; over = refl }))
-    (λ n₁. by-test (same name (ascii "vertical")) (λ y. rw (n₁, y) (vertical-agrees (direction (x .bytes) (c .vertical)) c))
-    (λ n₂. by-test (same name (ascii "line")) (λ y. rw (n₁, n₂, y) (line-agrees (x .bytes) c))
-    (λ n₃. by-test (same name (ascii "position"))
-    (λ y. rw (n₁, n₂, n₃, y)
-    (position-agrees (percentage (beforeFirst comma (x .bytes))) (positionAlign (x .bytes) (c .position .align)) c))
-    (λ n₄. by-test (same name (ascii "size")) (λ y. rw (n₁, n₂, n₃, n₄, y) (sized-agrees (percentage (x .bytes)) c))
-    (λ n₅. by-test (same name (ascii "align")) (λ y. rw (n₁, n₂, n₃, n₄, n₅, y) (record { same = refl; over = refl }))
-    (λ n₆. rw (n₁, n₂, n₃, n₄, n₅, n₆) (unchanged c)))))))
+pub size-told : (o : Option ℕ) → sizeChange o ≡ sizeTold (percentageIs o)
+unfolding sizeChange
+size-told none = refl
+size-told (some n) = refl
 
-change-agrees : (t : Part) (c : CueSettings) → Agrees (changeOf t (settingsIs c)) c (cueSetting t c)
-unfolding changeOf cueSetting
-change-agrees t c =
-    by-test (isEmpty (nameOf t) || isEmpty (valueOf t .bytes))
-    (λ y. rw y (unchanged c))
-    (λ n. rw n (named-agrees (nameOf t) (valueOf t) c))
+abbrev pub nameTold : CueName → List ℕ → Settings → Change
+nameTold CueName.Region x s = Change.Region
+nameTold CueName.Vertical x s = Change.Vertical (direction x (s .vertical))
+nameTold CueName.Line x s = lineChange x (s .line .align)
+nameTold CueName.Position x s = positionChange x (s .position .align)
+nameTold CueName.Size x s = sizeChange (percentage x)
+nameTold CueName.Align x s = Change.Align (alignment x (s .align))
+nameTold CueName.Other x s = Change.Nothing
 
-pub step-is : (t : Part) (c : CueSettings) → stepIs t (takenIs (taken c)) ≡ takenIs (cueSetting t c)
-step-is t c = let a = change-agrees t c in rw (a .same, a .over)
+pub name-told : (name x : List ℕ) (s : Settings) → named name x s ≡ nameTold (cueNameIs name) x s
+unfolding named
+name-told name x s =
+    by-test (same name (ascii "region")) (λ y. rw y refl)
+    (λ n₁. by-test (same name (ascii "vertical")) (λ y. rw (n₁, y) refl)
+    (λ n₂. by-test (same name (ascii "line")) (λ y. rw (n₁, n₂, y) refl)
+    (λ n₃. by-test (same name (ascii "position")) (λ y. rw (n₁, n₂, n₃, y) refl)
+    (λ n₄. by-test (same name (ascii "size")) (λ y. rw (n₁, n₂, n₃, n₄, y) refl)
+    (λ n₅. by-test (same name (ascii "align")) (λ y. rw (n₁, n₂, n₃, n₄, n₅, y) refl) (λ n₆. rw (n₁, n₂, n₃, n₄, n₅, n₆) refl))))))
+
+-- a region's name is kept, taken or cleared as a part and as its place alike
+span-cond : (t : Bool) (p q : Part) → spanIs (cond t p q) ≡ cond t (spanIs p) (spanIs q)
+span-cond true p q = refl
+span-cond false p q = refl
+
+name-span : (h : Change) (x name : Part) → spanIs (nameAfter emptyPart h x name) ≡ nameAfter noSpan h (spanIs x) (spanIs name)
+unfolding spanIs isEmpty
+name-span Change.Nothing x name = refl
+name-span Change.Over x name = refl
+name-span Change.Region x name = refl
+name-span (Change.Vertical d) x name = span-cond (isHorizontal d) name emptyPart
+name-span (Change.Line l) x name = refl
+name-span (Change.Position p) x name = refl
+name-span (Change.Size n) x name = span-cond (eqb n 100_000_000) name emptyPart
+name-span (Change.Align a) x name = refl
 
 -- token after token
-pub fold-is : (d : Taken) (ts : List Part) → foldIs (takenIs d) ts ≡ takenIs (settingsFrom d ts)
-unfolding foldIs settingsFrom
-fold-is d [] = refl
-fold-is d (t ∷ ts) =
-    let a = change-agrees t (d .settings) in
-    rw (a .same, a .over)
-    (fold-is
-    (record { settings = cueSetting t (d .settings) .settings; over = d .over || cueSetting t (d .settings) .over }) ts)
+pub fold-is : (v : Flagged CueSettings) (ts : List Part) → foldIs (takenIs v) ts ≡ takenIs (folded cueSetting v ts)
+unfolding foldIs folded cueSetting changed
+fold-is v [] = refl
+fold-is v (t ∷ ts) =
+    let h = cueChange t (v .value .settings) in
+    let r = cueSetting t (v .value) in
+    rw (← (name-span h (valueOf t) (v .value .region))) (fold-is (record { value = r .value; over = v .over || r .over }) ts)

@@ -1,6 +1,5 @@
 // A cue's settings: one token at a time, each as what it changes.
-use format::settings::Align;
-use format::settings::Direction;
+use format::settings::Change;
 use format::settings::Line;
 use format::settings::LineAlign;
 use format::settings::LinePlace;
@@ -23,28 +22,13 @@ use values::numbers::Percentage;
 use values::tokens::NameEnd;
 use values::tokens::Token;
 ghost use mathlib.Core.Path.{_≡_};
-ghost use mathlib.Core.Bool.{_||_};
-ghost use Prim.Native.Nat.{_-_, _≤_};
+ghost use Prim.Native.Nat.{_≤_};
 ghost use lib.ListN.{length, drop};
-ghost use Rattle.format.specs.CueSettings.{cueSettings};
+ghost use Rattle.format.specs.CueSettings.{linePercentage, lineCounted, lineChange, positionChange, sizeChange, named, cueSettings, spanIs};
 ghost use Rattle.format.specs.Bytes.{percent};
 ghost use Rattle.format.specs.Texts.{endsWith};
 ghost use Rattle.format.specs.Numbers.{percentage, lineNumber};
-ghost use Rattle.values.specs.Numbers.{percentageIs, lineNumberIs};
-ghost use Rattle.cue_settings.specs.Steps.{linePercentageChange, lineNumberChange, lineChange, positionChange, sizeChange, namedChange, changeOf, applied, isOver, stepIs, takenIs};
-
-// What a token changes.
-pub enum Change {
-    Nothing,
-    // A number above its limit, which is not kept.
-    Over,
-    Region(Span),
-    Vertical(Direction),
-    Line(LinePlace),
-    Position(PositionPlace),
-    Size(u64),
-    Align(Align),
-}
+ghost use Rattle.cue_settings.specs.Steps.{stepWith, stepIs, takenIs};
 
 fn ends_with_percent(s: &[u8]) -> bool
     ensures { λ r. ⌜ r ≡ endsWith percent (now (s .entry)) ⌝ }
@@ -57,7 +41,7 @@ fn ends_with_percent(s: &[u8]) -> bool
 }
 
 fn line_percentage(place: &[u8], align: LineAlign) -> Change
-    ensures { λ r. ⌜ r ≡ linePercentageChange (percentageIs (percentage (now (place .entry)))) align ⌝ }
+    ensures { λ r. ⌜ r ≡ linePercentage (percentage (now (place .entry))) align ⌝ }
 {
     match values::numbers::read_percentage(place) {
         Percentage::Bad => Change::Nothing,
@@ -73,7 +57,7 @@ fn line_percentage(place: &[u8], align: LineAlign) -> Change
 }
 
 fn line_number(place: &[u8], align: LineAlign) -> Change
-    ensures { λ r. ⌜ r ≡ lineNumberChange (lineNumberIs (lineNumber (now (place .entry)))) align ⌝ }
+    ensures { λ r. ⌜ r ≡ lineCounted (lineNumber (now (place .entry))) align ⌝ }
 {
     match values::numbers::read_line_number(place) {
         LineNumber::Bad => Change::Nothing,
@@ -126,7 +110,7 @@ fn position_change(value: &[u8], current: PositionAlign) -> Change
 }
 
 fn size_change(value: &[u8]) -> Change
-    ensures { λ r. ⌜ r ≡ sizeChange (percentageIs (percentage (now (value .entry)))) ⌝ }
+    ensures { λ r. ⌜ r ≡ sizeChange (percentage (now (value .entry))) ⌝ }
 {
     match values::numbers::read_percentage(value) {
         Percentage::Bad => Change::Nothing,
@@ -134,14 +118,12 @@ fn size_change(value: &[u8]) -> Change
     }
 }
 
-// What the setting of this name does with its value, which stands from `from` up to the end of `s`.
-fn named_change(name: CueName, s: &[u8], from: usize, settings: Settings) -> Change
-    requires { ⌜ from ≤ length (now s) ⌝ }
-    ensures { λ r. ⌜ r ≡ namedChange name (record { place = from; bytes = drop from (now (s .entry)) }) settings ⌝ }
+// What the setting of this name changes, by its value.
+fn named_change(name: &[u8], value: &[u8], settings: Settings) -> Change
+    ensures { λ r. ⌜ r ≡ named (now (name .entry)) (now (value .entry)) settings ⌝ }
 {
-    let value = &s[from..];
-    match name {
-        CueName::Region => Change::Region(values::tokens::span(from, s.len())),
+    match cue_name(name) {
+        CueName::Region => Change::Region,
         CueName::Vertical => {
             let current = settings.vertical;
             Change::Vertical(direction_of(value, current))
@@ -165,50 +147,11 @@ fn named_change(name: CueName, s: &[u8], from: usize, settings: Settings) -> Cha
     }
 }
 
-// What the token from `from` up to the end of `s` changes.
-fn token_change(s: &[u8], from: usize, settings: Settings) -> Change
-    requires { ⌜ from ≤ length (now s) ⌝ }
-    ensures { λ r. ⌜ r ≡ changeOf (record { place = from; bytes = drop from (now (s .entry)) }) settings ⌝ }
-{
-    match values::tokens::name_end(s, from) {
-        NameEnd::None => Change::Nothing,
-        NameEnd::At(colon) => named_change(cue_name(&s[from..colon]), s, colon + 1, settings),
-    }
-}
-
-fn apply(settings: Settings, change: Change) -> Settings
-    ensures { λ r. ⌜ r ≡ applied change settings ⌝ }
-{
-    match change {
-        Change::Nothing => settings,
-        Change::Over => settings,
-        Change::Region(name) => settings.with_region(name),
-        Change::Vertical(direction) => settings.with_vertical(direction),
-        Change::Line(place) => settings.with_line(place),
-        Change::Position(place) => settings.with_position(place),
-        Change::Size(size) => settings.with_size(size),
-        Change::Align(align) => settings.with_align(align),
-    }
-}
-
-fn is_over(change: Change) -> bool
-    ensures { λ r. ⌜ r ≡ isOver change ⌝ }
-{
-    match change {
-        Change::Nothing => false,
-        Change::Over => true,
-        Change::Region(_) => false,
-        Change::Vertical(_) => false,
-        Change::Line(_) => false,
-        Change::Position(_) => false,
-        Change::Size(_) => false,
-        Change::Align(_) => false,
-    }
-}
-
 // Settings, and whether a number was above its limit.
 pub struct CueTaken {
     pub settings: Settings,
+    // The name of the region that was asked for; empty where there is none.
+    pub region: Span,
     pub over: bool,
 }
 
@@ -220,6 +163,7 @@ pub fn read_settings(s: &[u8], from: usize) -> CueTaken
     let mut i = from;
     let mut taken = CueTaken {
         settings: Settings::opening(),
+        region: Span::NONE,
         over: false,
     };
     loop {
@@ -232,16 +176,29 @@ pub fn read_settings(s: &[u8], from: usize) -> CueTaken
     }
 }
 
+// The setting of this name, whose value stands from `from` up to the end of `s`, taken into account.
+fn named_step(name: &[u8], s: &[u8], from: usize, taken: CueTaken) -> CueTaken
+    requires { ⌜ from ≤ length (now s) ⌝ }
+    ensures { λ r. ⌜ r ≡ stepWith (named (now (name .entry)) (drop from (now (s .entry))) (taken .settings)) (spanIs (record { place = from; bytes = drop from (now (s .entry)) })) taken ⌝ }
+{
+    let settings = taken.settings;
+    let region = taken.region;
+    let change = named_change(name, &s[from..], settings);
+    let over = taken.over || change.is_over();
+    CueTaken {
+        settings: settings.changed(change),
+        region: change.name_after(values::tokens::span(from, s.len()), region),
+        over,
+    }
+}
+
 // The token from `from` up to the end of `s`, taken into account.
-pub fn step(s: &[u8], from: usize, taken: CueTaken) -> CueTaken
+fn step(s: &[u8], from: usize, taken: CueTaken) -> CueTaken
     requires { ⌜ from ≤ length (now s) ⌝ }
     ensures { λ r. ⌜ r ≡ stepIs (record { place = from; bytes = drop from (now (s .entry)) }) taken ⌝ }
 {
-    let settings = taken.settings;
-    let change = token_change(s, from, settings);
-    let over = taken.over || is_over(change);
-    CueTaken {
-        settings: apply(settings, change),
-        over,
+    match values::tokens::name_end(s, from) {
+        NameEnd::None => taken,
+        NameEnd::At(colon) => named_step(&s[from..colon], s, colon + 1, taken),
     }
 }

@@ -27,11 +27,13 @@ cueExample =
       start = 30;
       end = 40;
       text = record { from = 50; to = 60 };
-      vertical = Direction.Lr;
-      line = record { line = Line.At false 70; snap = false; align = LineAlign.End };
-      position = record { position = Position.At 80; align = PositionAlign.LineRight };
-      size = 90;
-      align = Align.Right;
+      settings = record {
+        vertical = Direction.Lr;
+        line = record { line = Line.At false 70; snap = false; align = LineAlign.End };
+        position = record { position = Position.At 80; align = PositionAlign.LineRight };
+        size = 90;
+        align = Align.Right;
+      };
       region = RegionIndex.At 4;
     }
 

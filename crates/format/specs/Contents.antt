@@ -7,10 +7,7 @@ use Rattle.format.specs.RegionSettings.{RegionValues}
 use Rattle.format.specs.Lists.{Cue, Lists, lists}
 use Rattle.format.specs.Rows.{regionFor, cueEntry, regionEntry, styleEntry, cueRows, regionRows, styleRows}
 use Rattle.format.specs.declared.settings.Span.{Span}
-use Rattle.format.specs.declared.settings.LinePlace.{LinePlace}
-use Rattle.format.specs.declared.settings.PositionPlace.{PositionPlace}
-use Rattle.format.specs.declared.settings.Direction.{Direction}
-use Rattle.format.specs.declared.settings.Align.{Align}
+use Rattle.format.specs.declared.settings.Settings.{Settings}
 use Rattle.format.specs.declared.regions.Point.{Point}
 use Rattle.format.specs.declared.regions.Scroll.{Scroll}
 use Rattle.format.specs.declared.regions.Region.{Region}
@@ -24,11 +21,7 @@ pub record CueContents : Type 0 where
   pub start : ℕ
   pub end : ℕ
   pub text : List ℕ
-  pub vertical : Direction
-  pub line : LinePlace
-  pub position : PositionPlace
-  pub size : ℕ
-  pub align : Align
+  pub settings : Settings
   pub region : Option ℕ
 
 -- "a region's are its identifier, width, lines, anchors and scroll"
@@ -53,12 +46,8 @@ cueContents rs c =
       start = c .start;
       end = c .end;
       text = c .text .bytes;
-      vertical = c .settings .vertical;
-      line = c .settings .line;
-      position = c .settings .position;
-      size = c .settings .size;
-      align = c .settings .align;
-      region = regionFor rs (c .settings .region);
+      settings = c .settings;
+      region = regionFor rs (c .region);
     }
 
 unfoldable pub regionContents : RegionValues → RegionContents
@@ -85,11 +74,7 @@ cueOfEntry s e =
       start = e .start;
       end = e .end;
       text = bytesAt s (e .text .from) (e .text .to);
-      vertical = e .vertical;
-      line = e .line;
-      position = e .position;
-      size = e .size;
-      align = e .align;
+      settings = e .settings;
       region = optionOf (e .region);
     }
 

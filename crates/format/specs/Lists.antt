@@ -7,7 +7,7 @@ use mathlib.Core.Option.{Option, none, some}
 use lib.ListN.{length, drop}
 use Rattle.format.specs.Bytes.{ascii, white}
 use Rattle.format.specs.Texts.{startsWith, all, Part, emptyPart}
-use Rattle.format.specs.CueSettings.{CueSettings}
+use Rattle.format.specs.declared.settings.Settings.{Settings}
 use Rattle.format.specs.RegionSettings.{RegionValues, TakenRegion, regionSettings}
 use Rattle.format.specs.TimingLines.{Timing, timingLine}
 use Rattle.format.specs.Blocks.{Line, linePart, holdsArrow, joined, blocks}
@@ -16,7 +16,9 @@ pub record Cue : Type 0 where
   pub id : Part
   pub start : ℕ
   pub end : ℕ
-  pub settings : CueSettings
+  pub settings : Settings
+  -- the name of the region that was asked for
+  pub region : Part
   pub text : Part
 
 -- what a block gives
@@ -30,7 +32,7 @@ pub data Item : Type 0 where
 unfoldable pub cueOf : Part → List Line → Option Timing → Item
 cueOf id ls none = nothing
 cueOf id ls (some t) =
-    cue (record { id = id; start = t .start; end = t .end; settings = t .settings; text = joined ls }) (t .over)
+    cue (record { id = id; start = t .start; end = t .end; settings = t .settings; region = t .region; text = joined ls }) (t .over)
 
 -- 11.6.1: the region of a REGION block
 unfoldable pub regionOf : TakenRegion → Item

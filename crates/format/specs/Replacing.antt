@@ -108,11 +108,7 @@ withRegion r c =
       start = c .start;
       end = c .end;
       text = c .text;
-      vertical = c .vertical;
-      line = c .line;
-      position = c .position;
-      size = c .size;
-      align = c .align;
+      settings = c .settings;
       region = r;
     }
 

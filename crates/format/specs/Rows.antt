@@ -99,16 +99,16 @@ cueWordsWith others e =
     ∷ e .end
     ∷ e .text .from
     ∷ e .text .to
-    ∷ directionWord (e .vertical)
-    ∷ lineWord (e .line .line)
-    ∷ lineNumberWord (e .line .line)
-    ∷ snapWord (e .line .snap)
-    ∷ lineAlignWord (e .line .align)
-    ∷ positionWord (e .position .position)
-    ∷ positionNumberWord (e .position .position)
-    ∷ positionAlignWord (e .position .align)
-    ∷ e .size
-    ∷ alignWord (e .align)
+    ∷ directionWord (e .settings .vertical)
+    ∷ lineWord (e .settings .line .line)
+    ∷ lineNumberWord (e .settings .line .line)
+    ∷ snapWord (e .settings .line .snap)
+    ∷ lineAlignWord (e .settings .line .align)
+    ∷ positionWord (e .settings .position .position)
+    ∷ positionNumberWord (e .settings .position .position)
+    ∷ positionAlignWord (e .settings .position .align)
+    ∷ e .settings .size
+    ∷ alignWord (e .settings .align)
     ∷ others
 
 -- the row of a cue
@@ -190,11 +190,13 @@ cueEntryWith region w =
       start = word 2 w;
       end = word 3 w;
       text = record { from = word 4 w; to = word 5 w };
-      vertical = directionOf (word 6 w);
-      line = record { line = lineOf (word 7 w) (word 8 w); snap = eqb (word 9 w) 0; align = lineAlignOf (word 10 w) };
-      position = record { position = positionOf (word 11 w) (word 12 w); align = positionAlignOf (word 13 w) };
-      size = word 14 w;
-      align = alignOf (word 15 w);
+      settings = record {
+        vertical = directionOf (word 6 w);
+        line = record { line = lineOf (word 7 w) (word 8 w); snap = eqb (word 9 w) 0; align = lineAlignOf (word 10 w) };
+        position = record { position = positionOf (word 11 w) (word 12 w); align = positionAlignOf (word 13 w) };
+        size = word 14 w;
+        align = alignOf (word 15 w);
+      };
       region = region;
     }
 
@@ -247,12 +249,8 @@ entryIs rs c =
       start = c .start;
       end = c .end;
       text = spanIs (c .text);
-      vertical = c .settings .vertical;
-      line = c .settings .line;
-      position = c .settings .position;
-      size = c .settings .size;
-      align = c .settings .align;
-      region = indexIs (regionFor rs (c .settings .region));
+      settings = c .settings;
+      region = indexIs (regionFor rs (c .region));
     }
 
 -- the tables' rows for lists

@@ -6,7 +6,9 @@ use lib.ListN.{length}
 use Rattle.format.specs.Bytes.{white, hyphen, greater}
 use Rattle.format.specs.Texts.{Part, pastRun}
 use Rattle.format.specs.Times.{Result, failed, got, Step, _>>=_, _>>_, expect, Time, timestamp, milliseconds, overHours}
-use Rattle.format.specs.CueSettings.{CueSettings, Taken, cueSettings}
+use Rattle.format.specs.CueSettings.{CueSettings, cueSettings}
+use Rattle.format.specs.Tokens.{Flagged}
+use Rattle.format.specs.declared.settings.Settings.{Settings}
 
 -- 3, 5, 9: skip whitespace
 abbrev pub skipWhite : Step Unit
@@ -42,16 +44,19 @@ timings = do
 pub record Timing : Type 0 where
   pub start : ℕ
   pub end : ℕ
-  pub settings : CueSettings
+  pub settings : Settings
+  -- the name of the region that was asked for
+  pub region : Part
   pub over : Bool
 
 -- 11, 12: the settings are read from what is left, whatever stands there
-unfoldable pub withSettings : Times → Taken → Timing
+unfoldable pub withSettings : Times → Flagged CueSettings → Timing
 withSettings t s =
     record {
       start = milliseconds (t .start);
       end = milliseconds (t .end);
-      settings = s .settings;
+      settings = s .value .settings;
+      region = s .value .region;
       over = overHours (t .start) || overHours (t .end) || s .over;
     }
 

@@ -15,6 +15,7 @@ use Rattle.format.specs.Blocks.{holdsArrow}
 use Rattle.format.specs.Rows.{cueCodesNamed, regionCodesNamed, cueEntry, regionEntry, styleEntry}
 use Rattle.format.specs.Contents.{CueContents, RegionContents, cueOfRow, regionOfRow, styleOfRow}
 use Rattle.format.specs.declared.settings.Span.{Span}
+use Rattle.format.specs.declared.settings.Settings.{Settings}
 use Rattle.format.specs.declared.settings.Line.{Line}
 use Rattle.format.specs.declared.settings.Line.the-variants as Line
 use Rattle.format.specs.declared.settings.LinePlace.{LinePlace}
@@ -93,8 +94,8 @@ positionFits p = go (p .position)
     go Position.Auto = isAuto (p .align)
     go (Position.At n) = atMost100 n
 
-unfoldable pub cueTest5 : LinePlace → PositionPlace → ℕ → Bool
-cueTest5 line position size = lineFits line && (positionFits position && atMost100 size)
+unfoldable pub cueTest5 : Settings → Bool
+cueTest5 s = lineFits (s .line) && (positionFits (s .position) && atMost100 (s .size))
 
 -- (6): "its region, if any, is in the list, has a non-empty identifier and is the last with it"
 unfoldable pub isIndex : Option ℕ → ℕ → Bool
@@ -111,7 +112,7 @@ cueTest6 names (some i) = lastOfItsName names i
 
 -- the tests 2 to 5, which look at what a cue says alone
 unfoldable pub cueTests : CueContents → List Bool
-cueTests c = cueTest2 (c .id) ∷ cueTest3 (c .text) ∷ cueTest4 (c .start) (c .end) ∷ cueTest5 (c .line) (c .position) (c .size) ∷ []
+cueTests c = cueTest2 (c .id) ∷ cueTest3 (c .text) ∷ cueTest4 (c .start) (c .end) ∷ cueTest5 (c .settings) ∷ []
 
 -- the identifiers of a table of regions over a text
 abbrev pub namesOf : List ℕ → List (List ℕ) → List (List ℕ)

@@ -10,6 +10,7 @@ use Rattle.format.specs.Bytes.{ascii, lf, space, percent, comma, hyphen,
 use Rattle.format.specs.Texts.{isEmpty}
 use Rattle.format.specs.Lines.{split}
 use Rattle.format.specs.Contents.{CueContents, RegionContents, Contents}
+use Rattle.format.specs.declared.settings.Settings.{Settings}
 use Rattle.format.specs.declared.settings.Direction.{Direction}
 use Rattle.format.specs.declared.settings.Direction.the-variants as Direction
 use Rattle.format.specs.declared.settings.Line.{Line}
@@ -117,6 +118,10 @@ writtenAlign Align.End = setting (ascii "align") (ascii "end")
 writtenAlign Align.Left = setting (ascii "align") (ascii "left")
 writtenAlign Align.Right = setting (ascii "align") (ascii "right")
 
+unfoldable pub writtenFive : Settings → List (List ℕ)
+writtenFive s =
+    writtenVertical (s .vertical) ++ writtenLine (s .line) ++ writtenPosition (s .position) ++ writtenSize (s .size) ++ writtenAlign (s .align)
+
 -- the region by its identifier, in a list of regions
 unfoldable pub writtenRegionName : List RegionContents → Option ℕ → List (List ℕ)
 writtenRegionName rs none = []
@@ -124,13 +129,7 @@ writtenRegionName rs (some i) = setting (ascii "region") (getD (map (λ r. r .id
 
 -- "cue settings in the order vertical, line, position, size, align, region"
 unfoldable pub writtenSettings : List RegionContents → CueContents → List (List ℕ)
-writtenSettings rs c =
-    writtenVertical (c .vertical)
-    ++ writtenLine (c .line)
-    ++ writtenPosition (c .position)
-    ++ writtenSize (c .size)
-    ++ writtenAlign (c .align)
-    ++ writtenRegionName rs (c .region)
+writtenSettings rs c = writtenFive (c .settings) ++ writtenRegionName rs (c .region)
 
 -- "parted by one space"
 unfoldable pub afterSpaces : List (List ℕ) → List ℕ

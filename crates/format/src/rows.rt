@@ -1,9 +1,6 @@
 // The rows of the lent tables: how many words a row of each table has, the name of each word, and the entries that rows are decoded to. What
 // the words mean is in specs/Rows.antt; the crate `rows` alone reads and makes rows word by word.
-use super::settings::Align;
-use super::settings::Direction;
-use super::settings::LinePlace;
-use super::settings::PositionPlace;
+use super::settings::Settings;
 use super::settings::Span;
 
 pub const CUE_WORDS: usize = 17;
@@ -99,11 +96,7 @@ pub struct CueEntry {
     pub start: u64,
     pub end: u64,
     pub text: Span,
-    pub vertical: Direction,
-    pub line: LinePlace,
-    pub position: PositionPlace,
-    pub size: u64,
-    pub align: Align,
+    pub settings: Settings,
     pub region: RegionIndex,
 }
 

@@ -3,7 +3,8 @@
 ghost use mathlib.Core.Path.{_≡_};
 ghost use mathlib.Core.Bool.{cond};
 ghost use lib.Dec.{eqb};
-ghost use Rattle.format.specs.CueSettings.{openingSettings, settingsIs, isHorizontal, noSpan};
+ghost use Rattle.format.specs.CueSettings.{openingSettings, settingsAfter, nameAfter, isOver, isHorizontal, noSpan};
+ghost use Rattle.format.specs.declared.settings.Change.the-variants as Cases;
 
 pub enum Direction {
     Horizontal,
@@ -71,8 +72,20 @@ pub struct Settings {
     // A percentage, in millionths.
     pub size: u64,
     pub align: Align,
-    // The name of the region that was asked for; empty where there is none.
-    pub region: Span,
+}
+
+// What one setting changes.
+pub enum Change {
+    Nothing,
+    // A number above its limit, which is not kept.
+    Over,
+    // The region's name is the setting's value.
+    Region,
+    Vertical(Direction),
+    Line(LinePlace),
+    Position(PositionPlace),
+    Size(u64),
+    Align(Align),
 }
 
 impl Span {
@@ -100,7 +113,7 @@ impl Settings {
     pub const OPENING_SIZE: u64 = 100_000_000;
 
     pub fn opening() -> Settings
-        ensures { λ r. ⌜ r ≡ settingsIs openingSettings ⌝ }
+        ensures { λ r. ⌜ r ≡ openingSettings ⌝ }
     {
         Settings {
             vertical: Direction::Horizontal,
@@ -108,121 +121,153 @@ impl Settings {
             position: PositionPlace::OPENING,
             size: Settings::OPENING_SIZE,
             align: Align::Center,
-            region: Span::NONE,
         }
     }
 
-    pub fn with_region(self, name: Span) -> Settings
-        ensures { λ r. ⌜ r ≡ record { vertical = self .vertical; line = self .line; position = self .position; size = self .size; align = self .align; region = name } ⌝ }
-    {
-        let vertical = self.vertical;
-        let line = self.line;
-        let position = self.position;
-        let align = self.align;
-        Settings {
-            vertical,
-            line,
-            position,
-            size: self.size,
-            align,
-            region: name,
-        }
-    }
-
-    // A vertical direction clears the region.
     pub fn with_vertical(self, vertical: Direction) -> Settings
-        ensures { λ r. ⌜ r ≡ record { vertical = vertical; line = self .line; position = self .position; size = self .size; align = self .align; region = cond (isHorizontal vertical) (self .region) noSpan } ⌝ }
+        ensures { λ r. ⌜ r ≡ settingsAfter (Cases.Vertical vertical) self ⌝ }
     {
         let line = self.line;
         let position = self.position;
         let align = self.align;
-        let region = match vertical {
-            Direction::Horizontal => self.region,
-            Direction::Rl => Span::NONE,
-            Direction::Lr => Span::NONE,
-        };
         Settings {
             vertical,
             line,
             position,
             size: self.size,
             align,
-            region,
         }
     }
 
-    // A line clears the region.
     pub fn with_line(self, line: LinePlace) -> Settings
-        ensures { λ r. ⌜ r ≡ record { vertical = self .vertical; line = line; position = self .position; size = self .size; align = self .align; region = noSpan } ⌝ }
+        ensures { λ r. ⌜ r ≡ settingsAfter (Cases.Line line) self ⌝ }
     {
         let vertical = self.vertical;
         let position = self.position;
         let align = self.align;
-        let region = Span::NONE;
         Settings {
             vertical,
             line,
             position,
             size: self.size,
             align,
-            region,
         }
     }
 
     pub fn with_position(self, position: PositionPlace) -> Settings
-        ensures { λ r. ⌜ r ≡ record { vertical = self .vertical; line = self .line; position = position; size = self .size; align = self .align; region = self .region } ⌝ }
+        ensures { λ r. ⌜ r ≡ settingsAfter (Cases.Position position) self ⌝ }
     {
         let vertical = self.vertical;
         let line = self.line;
         let align = self.align;
-        let region = self.region;
         Settings {
             vertical,
             line,
             position,
             size: self.size,
             align,
-            region,
         }
     }
 
-    // A size other than 100 clears the region.
     pub fn with_size(self, size: u64) -> Settings
-        ensures { λ r. ⌜ r ≡ record { vertical = self .vertical; line = self .line; position = self .position; size = size; align = self .align; region = cond (eqb size 100_000_000) (self .region) noSpan } ⌝ }
+        ensures { λ r. ⌜ r ≡ settingsAfter (Cases.Size size) self ⌝ }
     {
         let vertical = self.vertical;
         let line = self.line;
         let position = self.position;
         let align = self.align;
-        let region = if size == Settings::OPENING_SIZE {
-            self.region
-        } else {
-            Span::NONE
-        };
         Settings {
             vertical,
             line,
             position,
             size,
             align,
-            region,
         }
     }
 
     pub fn with_align(self, align: Align) -> Settings
-        ensures { λ r. ⌜ r ≡ record { vertical = self .vertical; line = self .line; position = self .position; size = self .size; align = align; region = self .region } ⌝ }
+        ensures { λ r. ⌜ r ≡ settingsAfter (Cases.Align align) self ⌝ }
     {
         let vertical = self.vertical;
         let line = self.line;
         let position = self.position;
-        let region = self.region;
         Settings {
             vertical,
             line,
             position,
             size: self.size,
             align,
-            region,
+        }
+    }
+
+    // The settings after a change.
+    pub fn changed(self, change: Change) -> Settings
+        ensures { λ r. ⌜ r ≡ settingsAfter change self ⌝ }
+    {
+        match change {
+            Change::Nothing => self,
+            Change::Over => self,
+            Change::Region => self,
+            Change::Vertical(direction) => self.with_vertical(direction),
+            Change::Line(place) => self.with_line(place),
+            Change::Position(place) => self.with_position(place),
+            Change::Size(size) => self.with_size(size),
+            Change::Align(align) => self.with_align(align),
+        }
+    }
+}
+
+impl Change {
+    pub fn is_over(self) -> bool
+        ensures { λ r. ⌜ r ≡ isOver self ⌝ }
+    {
+        match self {
+            Change::Nothing => false,
+            Change::Over => true,
+            Change::Region => false,
+            Change::Vertical(_) => false,
+            Change::Line(_) => false,
+            Change::Position(_) => false,
+            Change::Size(_) => false,
+            Change::Align(_) => false,
+        }
+    }
+
+    // A direction that is vertical clears the region.
+    fn name_after_vertical(direction: Direction, name: Span) -> Span
+        ensures { λ r. ⌜ r ≡ cond (isHorizontal direction) name noSpan ⌝ }
+    {
+        match direction {
+            Direction::Horizontal => name,
+            Direction::Rl => Span::NONE,
+            Direction::Lr => Span::NONE,
+        }
+    }
+
+    // A size other than 100 clears the region.
+    fn name_after_size(size: u64, name: Span) -> Span
+        ensures { λ r. ⌜ r ≡ cond (eqb size 100_000_000) name noSpan ⌝ }
+    {
+        if size == Settings::OPENING_SIZE {
+            return name;
+        }
+        Span::NONE
+    }
+
+    // The name of the region that is asked for after the change, `value` being where the setting's value stands.
+    pub fn name_after(self, value: Span, name: Span) -> Span
+        ensures { λ r. ⌜ r ≡ nameAfter noSpan self value name ⌝ }
+    {
+        match self {
+            Change::Nothing => name,
+            Change::Over => name,
+            Change::Region => value,
+            Change::Vertical(direction) => Change::name_after_vertical(direction, name),
+            // A line clears the region.
+            Change::Line(_) => Span::NONE,
+            Change::Position(_) => name,
+            Change::Size(size) => Change::name_after_size(size, name),
+            Change::Align(_) => name,
         }
     }
 }

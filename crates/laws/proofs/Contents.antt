@@ -10,10 +10,8 @@ use Rattle.format.specs.Bytes.{ascii, white, percent, comma}
 use Rattle.format.specs.Limits.{maxLine}
 use Rattle.format.specs.Texts.{Part, emptyPart, isEmpty, same, endsWith, beforeFirst}
 use Rattle.format.specs.Numbers.{percentage, LineNumber, lineNumber, overLine, lineCount}
-use Rattle.format.specs.Tokens.{inToken, onToken, beforeTokens, tokens, nameOf, valueOf}
-use Rattle.format.specs.CueSettings.{CueSettings, Taken, taken, openingSettings, setRegion, direction, setVertical, setLine, lineAlign}
-use Rattle.format.specs.CueSettings.{linePercentage, lineCounted, lineSetting, setPosition, positionAlign, positionGiven, positionSetting}
-use Rattle.format.specs.CueSettings.{setSize, sizeOf, setAlign, alignment, named, cueSetting, settingsFrom, cueSettings, isHorizontal}
+use Rattle.format.specs.Tokens.{inToken, onToken, beforeTokens, tokens, nameOf, valueOf, Flagged, folded}
+use Rattle.format.specs.CueSettings.{CueSettings, settingsAfter, nameAfter, isHorizontal, isOver, cueChange, changed, cueSetting, cueSettings}
 use Rattle.format.specs.RegionSettings.{RegionValues, TakenRegion, takenRegion, openingRegion, setId, setWidth, setLines, point, setAnchor}
 use Rattle.format.specs.RegionSettings.{setViewport, setScroll, namedRegion, regionSetting, regionFrom, regionSettings}
 use Rattle.format.specs.Times.{Result, failed, got, milliseconds, overHours}
@@ -24,10 +22,8 @@ use Rattle.format.specs.Lists.{Cue, Item, nothing, cue, style, region, cueOf, r
 use Rattle.format.specs.Lists.{Lists, into, listed, itemOver, anyOver}
 use Rattle.format.specs.Rows.{ids, regionFor}
 use Rattle.format.specs.Contents.{cueContents, regionContents, contents}
-use Rattle.format.specs.declared.settings.Direction.{Direction}
-use Rattle.format.specs.declared.settings.LineAlign.{LineAlign}
-use Rattle.format.specs.declared.settings.Align.{Align}
-use Rattle.format.specs.declared.settings.PositionAlign.{PositionAlign}
+use Rattle.format.specs.declared.settings.Change.{Change}
+use Rattle.format.specs.declared.settings.Change.the-variants as Change
 
 -- values with every place and every number 0
 abbrev bare : Part → Part
@@ -40,10 +36,7 @@ abbrev pub unplaced : List Line → List Line
 unplaced ls = map bareLine ls
 
 abbrev bareSettings : CueSettings → CueSettings
-bareSettings c = setRegion (bare (c .region)) c
-
-bareTaken : Taken → Taken
-bareTaken t = record { settings = bareSettings (t .settings); over = t .over }
+bareSettings c = record { settings = c .settings; region = bare (c .region) }
 
 abbrev bareValues : RegionValues → RegionValues
 bareValues r = setId (bare (r .id)) r
@@ -75,99 +68,54 @@ token-bytes p q (b ∷ x) =
     alike partBytes (white b) e
     (alike partBytes (inToken x) (on-token-bytes p q b (tokens (suc p) x) (tokens (suc q) x) e) (ap (λ r. (b ∷ []) ∷ r) e))
 
--- settings that differ in the region's place alone are alike
-alike-settings : (c d : CueSettings) → bareSettings c ≡ bareSettings d → bareTaken (taken c) ≡ bareTaken (taken d)
-unfolding bareTaken
-alike-settings c d e = ap taken e
+-- Folds over tokens: where a step on bared values gives the same bared value, so does the whole, whatever the tokens' places are.
+module _ {A : Type 0} (bareOf : A → A) (f : Part → A → Flagged A) where
+  abbrev flat : Flagged A → Flagged A
+  flat v = record { value = bareOf (v .value); over = v .over }
 
-module _ (c : CueSettings) where
-  line-percentage : (n : Option ℕ) (a : Option LineAlign) → bareTaken (linePercentage n a c) ≡ bareTaken (linePercentage n a (bareSettings c))
-  unfolding bareTaken linePercentage setLine setRegion
-  line-percentage none a = refl
-  line-percentage (some n) none = refl
-  line-percentage (some n) (some a) = refl
+  byBytes : Flagged A → List (List ℕ) → Flagged A
+  byBytes v [] = v
+  byBytes v (x ∷ xs) =
+      let r = flat (f (record { place = 0; bytes = x }) (v .value)) in
+      byBytes (record { value = r .value; over = v .over || r .over }) xs
 
-  line-counted : (n : Option LineNumber) (a : Option LineAlign) → bareTaken (lineCounted n a c) ≡ bareTaken (lineCounted n a (bareSettings c))
-  unfolding bareTaken lineCounted setLine setRegion
-  line-counted none a = refl
-  line-counted (some n) none = refl
-  line-counted (some n) (some a) = alike bareTaken (overLine n) refl refl
+  module _ (step : (t : Part) (a : A) → flat (f t a) ≡ flat (f (bare t) (bareOf a))) where
+    fold-bytes : (v : Flagged A) (ts : List Part) → flat (folded f v ts) ≡ byBytes (flat v) (partBytes ts)
+    unfolding byBytes folded
+    fold-bytes v [] = refl
+    fold-bytes v (t ∷ ts) =
+        let r = f t (v .value) in
+        fold-bytes (record { value = r .value; over = v .over || r .over }) ts
+        ∙ ap (λ r. byBytes (record { value = r .value; over = v .over || r .over }) (partBytes ts)) (step t (v .value))
 
-  position-of : (n : Option ℕ) (a : Option PositionAlign) → bareSettings (positionGiven n a c) ≡ bareSettings (positionGiven n a (bareSettings c))
-  unfolding positionGiven setPosition setRegion
-  position-of none a = refl
-  position-of (some n) none = refl
-  position-of (some n) (some a) = refl
+    folds-alike : (v : Flagged A) (ts us : List Part) → partBytes ts ≡ partBytes us → flat (folded f v ts) ≡ flat (folded f v us)
+    folds-alike v ts us e = fold-bytes v ts ∙ ap (byBytes (flat v)) e ∙ sym (fold-bytes v us)
 
-  size-of : (n : Option ℕ) → bareSettings (sizeOf n c) ≡ bareSettings (sizeOf n (bareSettings c))
-  unfolding sizeOf setSize setRegion
-  size-of none = refl
-  size-of (some n) = ap (λ p. setRegion p (setSize n c)) (alike bare (eqb n 100_000_000) refl refl)
+-- a change keeps, takes or clears a region's name, wherever it stands
+name-bare : (h : Change) (x y n : Part) → bare x ≡ bare y → bare (nameAfter emptyPart h x n) ≡ bare (nameAfter emptyPart h y (bare n))
+name-bare Change.Nothing x y n e = refl
+name-bare Change.Over x y n e = refl
+name-bare Change.Region x y n e = e
+name-bare (Change.Vertical d) x y n e = alike bare (isHorizontal d) refl refl
+name-bare (Change.Line l) x y n e = refl
+name-bare (Change.Position p) x y n e = refl
+name-bare (Change.Size m) x y n e = alike bare (eqb m 100_000_000) refl refl
+name-bare (Change.Align a) x y n e = refl
 
-  set-vertical : (d : Direction) → bareSettings (setVertical d c) ≡ bareSettings (setVertical d (bareSettings c))
-  unfolding setVertical setRegion
-  set-vertical d = ap (λ p. setRegion p (setVertical d c)) (alike bare (isHorizontal d) refl refl)
+cue-setting : (t : Part) (c : CueSettings) → flat bareSettings cueSetting (cueSetting t c) ≡ flat bareSettings cueSetting (cueSetting (bare t) (bareSettings c))
+unfolding cueSetting changed cueChange nameOf valueOf
+cue-setting t c =
+    let h = cueChange t (c .settings) in
+    ap (λ r. record { value = record { settings = settingsAfter h (c .settings); region = r }; over = isOver h }) (name-bare h (valueOf t) (valueOf (bare t)) (c .region) refl)
 
-  set-align : (a : Align) → bareSettings (setAlign a c) ≡ bareSettings (setAlign a (bareSettings c))
-  unfolding setAlign setRegion
-  set-align a = refl
-
-  unset : bareTaken (taken c) ≡ bareTaken (taken (bareSettings c))
-  unfolding bareTaken setRegion
-  unset = refl
-
-  named-cue :
-      (name : List ℕ) (p q : ℕ) (x : List ℕ)
-      → bareTaken (named name (record { place = p; bytes = x }) c)
-      ≡ bareTaken (named name (record { place = q; bytes = x }) (bareSettings c))
-  unfolding named lineSetting positionSetting setRegion
-  named-cue name p q x =
-      let b = bareSettings c in
-      let n = beforeFirst comma x in
-      let a = lineAlign x (c .line .align) in
-      let d = direction x (c .vertical) in
-      let at = positionAlign x (c .position .align) in
-      let al = alignment x (c .align) in
-      alike bareTaken (same name (ascii "region"))
-      (alike-settings (setRegion (record { place = p; bytes = x }) c) (setRegion (record { place = q; bytes = x }) b) refl)
-      (alike bareTaken (same name (ascii "vertical")) (alike-settings (setVertical d c) (setVertical d b) (set-vertical d))
-      (alike bareTaken (same name (ascii "line"))
-      (alike bareTaken (endsWith percent n) (line-percentage (percentage n) a) (line-counted (lineNumber n) a))
-      (alike bareTaken (same name (ascii "position"))
-      (alike-settings (positionGiven (percentage n) at c) (positionGiven (percentage n) at b) (position-of (percentage n) at))
-      (alike bareTaken (same name (ascii "size"))
-      (alike-settings (sizeOf (percentage x) c) (sizeOf (percentage x) b) (size-of (percentage x)))
-      (alike bareTaken (same name (ascii "align")) (alike-settings (setAlign al c) (setAlign al b) (set-align al)) unset)))))
-
-  cue-setting : (t : Part) → bareTaken (cueSetting t c) ≡ bareTaken (cueSetting (bare t) (bareSettings c))
-  unfolding cueSetting nameOf valueOf
-  cue-setting t =
-      let x = valueOf t .bytes in
-      alike bareTaken (isEmpty (nameOf t) || isEmpty x) unset
-      (named-cue (nameOf t) (valueOf t .place) (valueOf (bare t) .place) x)
-
--- the settings that tokens give, by their bytes
-cueBy : Taken → List (List ℕ) → Taken
-cueBy s [] = s
-cueBy s (x ∷ xs) =
-    let r = bareTaken (cueSetting (record { place = 0; bytes = x }) (s .settings)) in
-    cueBy (record { settings = r .settings; over = s .over || r .over }) xs
-
-cue-by : (s : Taken) (ts : List Part) → bareTaken (settingsFrom s ts) ≡ cueBy (bareTaken s) (partBytes ts)
-unfolding bareTaken cueBy settingsFrom
-cue-by s [] = refl
-cue-by s (t ∷ ts) =
-    let r = cueSetting t (s .settings) in
-    cue-by (record { settings = r .settings; over = s .over || r .over }) ts
-    ∙ ap (λ r. cueBy (record { settings = r .settings; over = s .over || r .over }) (partBytes ts)) (cue-setting (s .settings) t)
+abbrev bareTaken : Flagged CueSettings → Flagged CueSettings
+bareTaken v = flat bareSettings cueSetting v
 
 cue-settings :
     (p q : ℕ) (x : List ℕ)
     → bareTaken (cueSettings (record { place = p; bytes = x })) ≡ bareTaken (cueSettings (record { place = q; bytes = x }))
 unfolding cueSettings
-cue-settings p q x =
-    let opening = taken openingSettings in
-    cue-by opening (tokens p x) ∙ ap (cueBy (bareTaken opening)) (token-bytes p q x) ∙ sym (cue-by opening (tokens q x))
+cue-settings p q x = folds-alike bareSettings cueSetting cue-setting _ (tokens p x) (tokens q x) (token-bytes p q x)
 
 -- the same for regions
 alike-values : (r q : RegionValues) → bareValues r ≡ bareValues q → bareRegion (takenRegion r) ≡ bareRegion (takenRegion q)
@@ -241,7 +189,7 @@ region-settings p q x =
 
 -- what a block gives, with every place 0
 abbrev bareCue : Cue → Cue
-bareCue c = record { id = bare (c .id); start = c .start; end = c .end; settings = bareSettings (c .settings); text = bare (c .text) }
+bareCue c = record { id = bare (c .id); start = c .start; end = c .end; settings = c .settings; region = bare (c .region); text = bare (c .text) }
 
 bareItem : Item → Item
 bareItem nothing = nothing
@@ -260,14 +208,15 @@ joined-unplaced [] = refl
 joined-unplaced (l ∷ ls) = ap (λ r. join (l .bytes ∷ r)) (bytes-unplaced ls)
 
 -- the cue of a timing line, by its bytes
-cueWith : List ℕ → Times → Taken → List ℕ → Item
+cueWith : List ℕ → Times → Flagged CueSettings → List ℕ → Item
 cueWith id t s text =
     cue
     (record {
       id = record { place = 0; bytes = id };
       start = milliseconds (t .start);
       end = milliseconds (t .end);
-      settings = s .settings;
+      settings = s .value .settings;
+      region = s .value .region;
       text = record { place = 0; bytes = text };
     })
     (overHours (t .start) || overHours (t .end) || s .over)
@@ -275,7 +224,7 @@ cueWith id t s text =
 cue-of :
     (id line : Part) (ls : List Line) (r : Result Times)
     → bareItem (cueOf (bare id) (unplaced ls) (timingOf (bare line) r)) ≡ bareItem (cueOf id ls (timingOf line r))
-unfolding bareItem cueOf timingOf withSettings bareTaken cueWith
+unfolding bareItem cueOf timingOf withSettings cueWith
 cue-of id line ls failed = refl
 cue-of id line ls (got t rest) =
     let n = length (line .bytes) - length rest in
@@ -345,7 +294,7 @@ ids-bare [] = refl
 ids-bare (r ∷ rs) = ap (λ i. r .id .bytes ∷ i) (ids-bare rs)
 
 cue-contents : (rs : List RegionValues) (c : Cue) → cueContents (map bareValues rs) (bareCue c) ≡ cueContents rs c
-unfolding cueContents regionFor setRegion
+unfolding cueContents regionFor
 cue-contents rs c = rw (ids-bare rs)
 
 map-alike : {A B C : Type 0} (f : B → C) (g : A → C) (h : A → B) → ((a : A) → f (h a) ≡ g a) → (xs : List A) → map f (map h xs) ≡ map g xs

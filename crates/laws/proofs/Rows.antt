@@ -80,7 +80,7 @@ align-coded Align.Left = refl
 align-coded Align.Right = refl
 
 -- a line that a row says is never minus zero
-pub row-signed : (r : RegionIndex) (w : List ℕ) → Signed (cueEntryWith r w .line .line)
+pub row-signed : (r : RegionIndex) (w : List ℕ) → Signed (cueEntryWith r w .settings .line .line)
 row-signed r w = go (word 7 w) (word 8 w)
   where
     below : (m : ℕ) (b : Bool) → Signed (Line.At (b && ltb 0 m) m)
@@ -107,16 +107,16 @@ scroll-coded Scroll.None = refl
 scroll-coded Scroll.Up = refl
 
 -- coding and decoding are inverse
-pub cue-inverse : (e : CueEntry) → Signed (e .line .line) → Indexed (e .region) → cueEntry (cueWords e) ≡ e
+pub cue-inverse : (e : CueEntry) → Signed (e .settings .line .line) → Indexed (e .region) → cueEntry (cueWords e) ≡ e
 cue-inverse e h l =
     rw (
-      direction-coded (e .vertical),
-      line-coded (e .line .line) h,
-      snap-coded (e .line .snap),
-      line-align-coded (e .line .align),
-      position-coded (e .position .position),
-      position-align-coded (e .position .align),
-      align-coded (e .align),
+      direction-coded (e .settings .vertical),
+      line-coded (e .settings .line .line) h,
+      snap-coded (e .settings .line .snap),
+      line-align-coded (e .settings .line .align),
+      position-coded (e .settings .position .position),
+      position-align-coded (e .settings .position .align),
+      align-coded (e .settings .align),
       region-coded (e .region) l,
     )
 
@@ -146,7 +146,7 @@ pub read-inverse :
     → length rs ≤ greatestWord
     → cueEntry (cueWords (entryIs rs c)) ≡ entryIs rs c
 unfolding entryIs
-read-inverse rs c h l = cue-inverse (entryIs rs c) h (region-indexed rs (c .settings .region) l)
+read-inverse rs c h l = cue-inverse (entryIs rs c) h (region-indexed rs (c .region) l)
 
 -- a text has no more lines than bytes and one, no more blocks than lines, and no more regions than blocks
 split-length : (s : List ℕ) → length (split s) ≤ suc (length s)
@@ -229,7 +229,7 @@ cue-same :
 unfolding cueOfEntry entryIs cueContents
 cue-same s rs c k l =
     ap (cueOfEntry s) (read-inverse rs c (k .line) l)
-    ∙ rw (stands-bytes s (c .id) (k .id), stands-bytes s (c .text) (k .text), option-index (regionFor rs (c .settings .region)))
+    ∙ rw (stands-bytes s (c .id) (k .id), stands-bytes s (c .text) (k .text), option-index (regionFor rs (c .region)))
 
 region-same : (s : List ℕ) (r : RegionValues) → Stands s (r .id) → regionOfRow s (regionWords (regionIs r)) ≡ regionContents r
 unfolding regionOfEntry regionContents

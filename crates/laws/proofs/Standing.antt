@@ -13,10 +13,12 @@ use Rattle.format.specs.Bytes.{ascii, lf, white, digit, fullStop, hyphen, great
 use Rattle.format.specs.Limits.{maxLine}
 use Rattle.format.specs.Texts.{Part, emptyPart, isEmpty, same, endsWith, beforeFirst, run, pastRun, startsWith}
 use Rattle.format.specs.Numbers.{number, percentage, LineNumber, lineNumber, overLine, isNegative, millionths, lineCount}
-use Rattle.format.specs.Tokens.{inToken, onToken, beforeTokens, tokens, nameOf, valueOf}
-use Rattle.format.specs.CueSettings.{CueSettings, Taken, setRegion, direction, setVertical, setLine, lineAlign, linePercentage, lineCounted}
-use Rattle.format.specs.CueSettings.{lineSetting, setPosition, positionAlign, positionGiven, positionSetting, setSize, sizeOf, setAlign, named}
-use Rattle.format.specs.CueSettings.{cueSetting, settingsFrom, cueSettings, isHorizontal, taken, openingSettings}
+use Rattle.format.specs.Tokens.{inToken, onToken, beforeTokens, tokens, nameOf, valueOf, Flagged, folded}
+use Rattle.format.specs.CueSettings.{CueSettings, settingsAfter, nameAfter, isHorizontal, lineAlign, linePercentage, lineCounted, lineAligned, lineChange}
+use Rattle.format.specs.CueSettings.{positionAlign, positionAligned, positionChange, sizeChange, named, cueChange, changed, cueSetting, cueSettings}
+use Rattle.format.specs.declared.settings.Settings.{Settings}
+use Rattle.format.specs.declared.settings.Change.{Change}
+use Rattle.format.specs.declared.settings.Change.the-variants as Change
 use Rattle.format.specs.declared.settings.Line.{Line as LineSetting}
 use Rattle.format.specs.declared.settings.Line.the-variants as LineSetting
 use Rattle.format.specs.declared.settings.LineAlign.{LineAlign}
@@ -134,50 +136,24 @@ Signed (LineSetting.At true n) = 0 < n
 
 -- a setting leaves a cue's region as it was, takes it away, or puts its value there
 module _ (P : Part → Type 0) (at-empty : P emptyPart) where
-  OfCue : Taken → Type 0
-  OfCue t = P (t .settings .region)
+  name-after : (h : Change) (x name : Part) → P x → P name → P (nameAfter emptyPart h x name)
+  name-after Change.Nothing x name v h = h
+  name-after Change.Over x name v h = h
+  name-after Change.Region x name v h = v
+  name-after (Change.Vertical d) x name v h = either P (isHorizontal d) h at-empty
+  name-after (Change.Line l) x name v h = at-empty
+  name-after (Change.Position p) x name v h = h
+  name-after (Change.Size n) x name v h = either P (eqb n 100_000_000) h at-empty
+  name-after (Change.Align a) x name v h = h
 
-  line-percentage : (n : Option ℕ) (a : Option LineAlign) (c : CueSettings) → P (c .region) → OfCue (linePercentage n a c)
-  unfolding OfCue linePercentage setLine
-  line-percentage none a c h = h
-  line-percentage (some n) none c h = h
-  line-percentage (some n) (some a) c h = at-empty
-
-  line-counted : (n : Option LineNumber) (a : Option LineAlign) (c : CueSettings) → P (c .region) → OfCue (lineCounted n a c)
-  unfolding OfCue lineCounted setLine
-  line-counted none a c h = h
-  line-counted (some n) none c h = h
-  line-counted (some n) (some a) c h = either OfCue (overLine n) h at-empty
-
-  position-of : (n : Option ℕ) (a : Option PositionAlign) (c : CueSettings) → P (c .region) → P (positionGiven n a c .region)
-  unfolding positionGiven setPosition
-  position-of none a c h = h
-  position-of (some n) none c h = h
-  position-of (some n) (some a) c h = h
-
-  cue-setting : (t : Part) (c : CueSettings) → P (valueOf t) → P (c .region) → OfCue (cueSetting t c)
-  unfolding OfCue cueSetting named setRegion setVertical lineSetting positionSetting sizeOf setSize setAlign
-  cue-setting t c v h =
-      let name = nameOf t in
-      let x = valueOf t .bytes in
-      let n = beforeFirst comma x in
-      let a = lineAlign x (c .line .align) in
-      either OfCue (isEmpty name || isEmpty x) h
-      (either OfCue (same name (ascii "region")) v
-      (either OfCue (same name (ascii "vertical")) (either P (isHorizontal (direction x (c .vertical))) h at-empty)
-      (either OfCue (same name (ascii "line"))
-      (either OfCue (endsWith percent n) (line-percentage (percentage n) a c h) (line-counted (lineNumber n) a c h))
-      (either OfCue (same name (ascii "position")) (position-of (percentage n) (positionAlign x (c .position .align)) c h)
-      (either OfCue (same name (ascii "size"))
-      (by-option (λ n. P (sizeOf n c .region)) (percentage x) h (λ n. either P (eqb n 100_000_000) h at-empty))
-      (either OfCue (same name (ascii "align")) h h))))))
-
-  cue-settings : (s : Taken) (ts : List Part) → All (λ t. P (valueOf t)) ts → OfCue s → OfCue (settingsFrom s ts)
-  unfolding OfCue settingsFrom
+  cue-settings :
+      (s : Flagged CueSettings) (ts : List Part) → All (λ t. P (valueOf t)) ts → P (s .value .region) → P (folded cueSetting s ts .value .region)
+  unfolding folded cueSetting changed
   cue-settings s [] v h = h
   cue-settings s (t ∷ ts) v h =
-      let r = cueSetting t (s .settings) in
-      cue-settings (record { settings = r .settings; over = s .over || r .over }) ts (v .1) (cue-setting t (s .settings) (v .0) h)
+      let r = cueSetting t (s .value) in
+      cue-settings (record { value = r .value; over = s .over || r .over }) ts (v .1)
+      (name-after (cueChange t (s .value .settings)) (valueOf t) (s .value .region) (v .0) h)
 
   -- the same for a region's identifier
   unfoldable pub OfRegion : TakenRegion → Type 0
@@ -213,59 +189,72 @@ line-signed n = go (n .minus)
     go true = by-test (ltb 0 (millionths (n .size))) (λ y. rw y (ltb-true 0 (millionths (n .size)) y)) (λ z. rw z tt)
     go false = tt
 
-OfLine : Taken → Type 0
-OfLine t = Signed (t .settings .line .line)
+-- a change that sets no line to minus zero
+SignedChange : Change → Type 0
+SignedChange Change.Nothing = Unit
+SignedChange Change.Over = Unit
+SignedChange Change.Region = Unit
+SignedChange (Change.Vertical d) = Unit
+SignedChange (Change.Line l) = Signed (l .line)
+SignedChange (Change.Position p) = Unit
+SignedChange (Change.Size n) = Unit
+SignedChange (Change.Align a) = Unit
 
-module _ (c : CueSettings) (h : Signed (c .line .line)) where
-  percentage-signed : (n : Option ℕ) (a : Option LineAlign) → OfLine (linePercentage n a c)
-  unfolding OfLine linePercentage setLine
-  percentage-signed none a = h
-  percentage-signed (some n) none = h
-  percentage-signed (some n) (some a) = tt
+line-changed : (place : List ℕ) (a : Option LineAlign) → SignedChange (lineAligned place a)
+unfolding SignedChange lineAligned linePercentage lineCounted
+line-changed place none = tt
+line-changed place (some a) =
+    either SignedChange (endsWith percent place)
+    (by-option (λ n. SignedChange (linePercentage n a)) (percentage place) tt (λ n. tt))
+    (by-option (λ n. SignedChange (lineCounted n a)) (lineNumber place) tt (λ n. either SignedChange (overLine n) tt (line-signed n)))
 
-  counted-signed : (n : Option LineNumber) (a : Option LineAlign) → OfLine (lineCounted n a c)
-  unfolding OfLine lineCounted setLine
-  counted-signed none a = h
-  counted-signed (some n) none = h
-  counted-signed (some n) (some a) = either OfLine (overLine n) h (line-signed n)
+position-changed : (n : Option ℕ) (a : Option PositionAlign) → SignedChange (positionAligned n a)
+unfolding SignedChange positionAligned
+position-changed none a = tt
+position-changed (some n) none = tt
+position-changed (some n) (some a) = tt
 
-  position-signed : (n : Option ℕ) (a : Option PositionAlign) → Signed (positionGiven n a c .line .line)
-  unfolding positionGiven setPosition
-  position-signed none a = h
-  position-signed (some n) none = h
-  position-signed (some n) (some a) = h
+change-signed : (t : Part) (s : Settings) → SignedChange (cueChange t s)
+unfolding SignedChange cueChange named lineChange positionChange sizeChange
+change-signed t s =
+    let name = nameOf t in
+    let x = valueOf t .bytes in
+    let n = beforeFirst comma x in
+    either SignedChange (isEmpty name || isEmpty x) tt
+    (either SignedChange (same name (ascii "region")) tt
+    (either SignedChange (same name (ascii "vertical")) tt
+    (either SignedChange (same name (ascii "line")) (line-changed n (lineAlign x (s .line .align)))
+    (either SignedChange (same name (ascii "position")) (position-changed (percentage n) (positionAlign x (s .position .align)))
+    (either SignedChange (same name (ascii "size")) (by-option (λ n. SignedChange (sizeChange n)) (percentage x) tt (λ n. tt))
+    (either SignedChange (same name (ascii "align")) tt tt))))))
 
-  setting-signed : (t : Part) → OfLine (cueSetting t c)
-  unfolding OfLine cueSetting named setRegion setVertical lineSetting positionSetting sizeOf setSize setAlign
-  setting-signed t =
-      let name = nameOf t in
-      let x = valueOf t .bytes in
-      let n = beforeFirst comma x in
-      let a = lineAlign x (c .line .align) in
-      either OfLine (isEmpty name || isEmpty x) h
-      (either OfLine (same name (ascii "region")) h
-      (either OfLine (same name (ascii "vertical")) h
-      (either OfLine (same name (ascii "line"))
-      (either OfLine (endsWith percent n) (percentage-signed (percentage n) a) (counted-signed (lineNumber n) a))
-      (either OfLine (same name (ascii "position")) (position-signed (percentage n) (positionAlign x (c .position .align)))
-      (either OfLine (same name (ascii "size")) (by-option (λ n. Signed (sizeOf n c .line .line)) (percentage x) h (λ n. h))
-      (either OfLine (same name (ascii "align")) h h))))))
+changed-signed : (h : Change) (s : Settings) → SignedChange h → Signed (s .line .line) → Signed (settingsAfter h s .line .line)
+unfolding SignedChange
+changed-signed Change.Nothing s k h = h
+changed-signed Change.Over s k h = h
+changed-signed Change.Region s k h = h
+changed-signed (Change.Vertical d) s k h = h
+changed-signed (Change.Line l) s k h = k
+changed-signed (Change.Position p) s k h = h
+changed-signed (Change.Size n) s k h = h
+changed-signed (Change.Align a) s k h = h
 
-settings-signed : (s : Taken) (ts : List Part) → OfLine s → OfLine (settingsFrom s ts)
-unfolding OfLine settingsFrom
+settings-signed : (s : Flagged CueSettings) (ts : List Part) → Signed (s .value .settings .line .line) → Signed (folded cueSetting s ts .value .settings .line .line)
+unfolding folded cueSetting changed
 settings-signed s [] h = h
 settings-signed s (t ∷ ts) h =
-    let r = cueSetting t (s .settings) in
-    settings-signed (record { settings = r .settings; over = s .over || r .over }) ts (setting-signed (s .settings) h t)
+    let r = cueSetting t (s .value) in
+    settings-signed (record { value = r .value; over = s .over || r .over }) ts
+    (changed-signed (cueChange t (s .value .settings)) (s .value .settings) (change-signed t (s .value .settings)) h)
 
 timing-signed : (line : Part) (t : Timing) (r : Result Times) → timingOf line r ≡ some t → Signed (t .settings .line .line)
-unfolding timingOf withSettings cueSettings OfLine
+unfolding timingOf withSettings cueSettings
 timing-signed line t failed e = let z : _≡_ {A = ℕ} 0 1 = cc in absurd (omega arith)
 timing-signed line t (got x rest) e =
     let q = line .place + (length (line .bytes) - length rest) in
     let left : Part = record { place = q; bytes = rest } in
     let f : withSettings x (cueSettings left) ≡ t = cc in
-    subst (λ u. Signed (u .settings .line .line)) f (settings-signed (taken openingSettings) (tokens q rest) tt)
+    subst (λ u. Signed (u .settings .line .line)) f (settings-signed _ (tokens q rest) tt)
 
 all-values : (s : List ℕ) (ts : List Part) → All (Stands s) ts → All (λ t. Stands s (valueOf t)) ts
 all-values s [] h = tt
@@ -274,11 +263,11 @@ all-values s (t ∷ ts) h = (stands-value s t (h .0), all-values s ts (h .1))
 stands-values : (s : List ℕ) (p : Part) → Stands s p → All (λ t. Stands s (valueOf t)) (tokens (p .place) (p .bytes))
 stands-values s p h = all-values s (tokens (p .place) (p .bytes)) (stands-token s (p .place) (p .bytes) h)
 
-pub stands-cue-settings : (s : List ℕ) (p : Part) → Stands s p → Stands s (cueSettings p .settings .region)
-unfolding cueSettings OfCue
+pub stands-cue-settings : (s : List ℕ) (p : Part) → Stands s p → Stands s (cueSettings p .value .region)
+unfolding cueSettings
 stands-cue-settings s p h =
     let none = stands-empty s in
-    cue-settings (Stands s) none (taken openingSettings) (tokens (p .place) (p .bytes)) (stands-values s p h) none
+    cue-settings (Stands s) none _ (tokens (p .place) (p .bytes)) (stands-values s p h) none
 
 pub stands-region : (s : List ℕ) (p : Part) → Stands s p → Stands s (regionSettings p .region .id)
 unfolding regionSettings OfRegion
@@ -390,7 +379,7 @@ timing-of :
     → Leaves (line .bytes) r
     → Stands s line
     → timingOf line r ≡ some t
-    → Stands s (t .settings .region)
+    → Stands s (t .region)
 unfolding Leaves timingOf withSettings
 timing-of s line t failed k h e = let z : _≡_ {A = ℕ} 0 1 = cc in absurd (omega arith)
 timing-of s line t (got x rest) k h e =
@@ -400,9 +389,9 @@ timing-of s line t (got x rest) k h e =
     let whole : StandsAt s (line .place) (k .gone ++ rest) = rw (k .is) at h in
     let settled = stands-cue-settings s left (rw n at (stands-back s (line .place) (k .gone) rest whole)) in
     let f : withSettings x (cueSettings left) ≡ t = cc in
-    subst (λ u. Stands s (u .settings .region)) f settled
+    subst (λ u. Stands s (u .region)) f settled
 
-pub stands-timing : (s : List ℕ) (line : Part) (t : Timing) → Stands s line → timingLine line ≡ some t → Stands s (t .settings .region)
+pub stands-timing : (s : List ℕ) (line : Part) (t : Timing) → Stands s line → timingLine line ≡ some t → Stands s (t .region)
 unfolding timingLine
 stands-timing s line t h e = timing-of s line t (timings (line .bytes)) (keeps-timings .at (line .bytes)) h e
 
@@ -507,7 +496,7 @@ module _ (s : List ℕ) where
   pub record CueStands (c : Cue) : Type 0 where
     pub id : Stands s (c .id)
     pub text : Stands s (c .text)
-    pub region : Stands s (c .settings .region)
+    pub region : Stands s (c .region)
     -- and its line is not minus zero
     pub line : Signed (c .settings .line .line)
 

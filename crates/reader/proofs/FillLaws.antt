@@ -59,7 +59,7 @@ entry-is :
     → CueStands s c
     → entryOf s (regionRows rs) (cueIs c) ≡ entryIs rs c
 unfolding entryIs
-entry-is s rs c all h = rw (region-found s rs (c .settings .region) all (h .region))
+entry-is s rs c all h = rw (region-found s rs (c .region) all (h .region))
 
 -- the tables are long enough
 pub record Fits (s : List ℕ) (cues₀ regions₀ styles₀ : List (List ℕ)) : Type 0 where

@@ -30,12 +30,8 @@ entryOf s rows c =
       start = c .start;
       end = c .end;
       text = c .text;
-      vertical = c .settings .vertical;
-      line = c .settings .line;
-      position = c .settings .position;
-      size = c .settings .size;
-      align = c .settings .align;
-      region = regionAt s rows (c .settings .region);
+      settings = c .settings;
+      region = regionAt s rows (c .region);
     }
 
 -- the tables after one item, n being the counts before it

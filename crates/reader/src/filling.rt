@@ -39,21 +39,13 @@ fn entry(text: &[u8], cue: CueRead, regions: &[RegionRow], count: usize) -> CueE
     let id = cue.id;
     let part = cue.text;
     let settings = cue.settings;
-    let vertical = settings.vertical;
-    let line = settings.line;
-    let position = settings.position;
-    let align = settings.align;
-    let name = settings.region;
+    let name = cue.region;
     CueEntry {
         id,
         start: cue.start,
         end: cue.end,
         text: part,
-        vertical,
-        line,
-        position,
-        size: settings.size,
-        align,
+        settings,
         region: region_of(text, name, regions, count),
     }
 }

@@ -137,20 +137,12 @@ fn put_parts(line: &[u8], id: Span, text: Span, region: Span, room: &mut [u8]) -
 fn request_of(numbers: Numbers, settings: Settings, parts: Parts) -> Request {
     let id = parts.id;
     let text = parts.text;
-    let vertical = settings.vertical;
-    let line = settings.line;
-    let position = settings.position;
-    let align = settings.align;
     let cue = CueEntry {
         id,
         start: numbers.start,
         end: numbers.end,
         text,
-        vertical,
-        line,
-        position,
-        size: settings.size,
-        align,
+        settings,
         region: RegionIndex::None,
     };
     let region = parts.region;
@@ -173,7 +165,7 @@ fn read_fields(line: &[u8], fields: FieldPlaces, room: &mut [u8]) -> Asked {
         return Asked::Bad;
     }
     let settings = taken.settings;
-    let put = put_parts(line, fields.id, fields.text, settings.region, room);
+    let put = put_parts(line, fields.id, fields.text, taken.region, room);
     let PartsPut::Good(parts) = put else {
         return Asked::Bad;
     };

@@ -11,12 +11,16 @@ use lib.ListN.{length, getD}
 use borrow.Author.Tests.{ne-eqb, eqb-true, eq-eqb, ltb-true, leb-true, le-ltb, not-true}
 use Rattle.format.specs.Bytes.{ascii, white, lf, percent, comma, hyphen, fullStop, colon, digit}
 use Rattle.format.specs.Texts.{Part, emptyPart, isEmpty, same, all, run, endsWith, startsWith, pastRun, beforeFirst, has, bytesAt}
-use Rattle.format.specs.CueSettings.{CueSettings, Taken, taken, openingSettings, setRegion, direction, setVertical, setLine}
-use Rattle.format.specs.CueSettings.{lineAlign, linePercentage, lineCounted, lineSetting, setPosition, positionAlign, positionGiven}
-use Rattle.format.specs.CueSettings.{positionSetting, setSize, sizeOf, setAlign, alignment, named, cueSetting, settingsFrom, cueSettings}
+use Rattle.format.specs.Tokens.{Flagged, unflagged, folded}
+use Rattle.format.specs.CueSettings.{CueSettings, openingSettings, settingsAfter, nameAfter, isOver, direction, lineAlign, linePercentage, lineCounted}
+use Rattle.format.specs.CueSettings.{lineAligned, lineChange, positionAlign, positionAligned, positionChange, sizeChange, alignment, named, cueChange}
+use Rattle.format.specs.CueSettings.{changed, cueSetting, cueSettings}
+use Rattle.format.specs.declared.settings.Settings.{Settings}
+use Rattle.format.specs.declared.settings.Change.{Change}
+use Rattle.format.specs.declared.settings.Change.the-variants as Change
 use Rattle.format.specs.Written.{lastDigits, decimalIn, writtenTime, withoutZeros, fraction, writtenDecimal, writtenPercentage, setting}
 use Rattle.format.specs.Written.{writtenVertical, writtenLineAlign, writtenLineNumber, writtenLine, writtenPositionAlign, writtenPosition}
-use Rattle.format.specs.Written.{writtenSize, writtenAlign, writtenRegionName, writtenSettings, afterSpaces, writtenTiming, lineEnded}
+use Rattle.format.specs.Written.{writtenSize, writtenAlign, writtenFive, writtenRegionName, writtenSettings, afterSpaces, writtenTiming, lineEnded}
 use Rattle.format.specs.Blocks.{holdsArrow}
 use Rattle.format.specs.Rows.{cueEntry}
 use Rattle.format.specs.Writable.{unbroken, atMost100, lineFits, positionFits, isIndex, lastOfItsName, namesOf, cueTest1, cueTest2, cueTest3, cueTest4}
@@ -168,42 +172,38 @@ abbrev pub settingAt : ℕ → List ℕ → List ℕ → Part
 settingAt p name value = record { place = p; bytes = name ++ colon ∷ value }
 
 setting-read :
-    (p : ℕ) (name value : List ℕ) (c : CueSettings)
+    (p : ℕ) (name value : List ℕ) (s : Settings)
     → absent colon name ≡ true
     → isEmpty name ≡ false
     → isEmpty value ≡ false
-    → cueSetting (settingAt p name value) c ≡ named name (record { place = p + suc (length name); bytes = value }) c
-unfolding cueSetting
-setting-read p name value c a n v =
+    → cueChange (settingAt p name value) s ≡ named name value s
+unfolding cueChange
+setting-read p name value s a n v =
     let t = settingAt p name value in
     rw (setting-name t name value a refl, setting-value t name value a refl, n, v)
 
 -- each setting as it is written, read where other settings have been read
-module _ (p : ℕ) (c : CueSettings) where
+module _ (p : ℕ) (s : Settings) where
   vertical-read :
       (d : Direction) (x : List ℕ)
       → isEmpty x ≡ false
-      → direction x (c .vertical) ≡ d
-      → cueSetting (settingAt p (ascii "vertical") x) c ≡ taken (setVertical d c)
+      → direction x (s .vertical) ≡ d
+      → cueChange (settingAt p (ascii "vertical") x) s ≡ Change.Vertical d
   unfolding absent isEmpty named same
-  vertical-read d x f e = setting-read p (ascii "vertical") x c refl refl f ∙ ap (λ d. taken (setVertical d c)) e
+  vertical-read d x f e = setting-read p (ascii "vertical") x s refl refl f ∙ ap Change.Vertical e
 
   align-read :
-      (a : Align) (x : List ℕ)
-      → isEmpty x ≡ false
-      → alignment x (c .align) ≡ a
-      → cueSetting (settingAt p (ascii "align") x) c ≡ taken (setAlign a c)
+      (a : Align) (x : List ℕ) → isEmpty x ≡ false → alignment x (s .align) ≡ a → cueChange (settingAt p (ascii "align") x) s ≡ Change.Align a
   unfolding absent isEmpty named same
-  align-read a x f e = setting-read p (ascii "align") x c refl refl f ∙ ap (λ a. taken (setAlign a c)) e
+  align-read a x f e = setting-read p (ascii "align") x s refl refl f ∙ ap Change.Align e
 
-  pub vertical-written :
-      (d : Direction) → All (λ t. cueSetting (record { place = p; bytes = t }) c ≡ taken (setVertical d c)) (writtenVertical d)
+  vertical-written : (d : Direction) → All (λ t. cueChange (record { place = p; bytes = t }) s ≡ Change.Vertical d) (writtenVertical d)
   unfolding writtenVertical setting direction same isEmpty
   vertical-written Direction.Horizontal = tt
   vertical-written Direction.Rl = (vertical-read Direction.Rl (ascii "rl") refl refl, tt)
   vertical-written Direction.Lr = (vertical-read Direction.Lr (ascii "lr") refl refl, tt)
 
-  pub align-written : (a : Align) → All (λ t. cueSetting (record { place = p; bytes = t }) c ≡ taken (setAlign a c)) (writtenAlign a)
+  align-written : (a : Align) → All (λ t. cueChange (record { place = p; bytes = t }) s ≡ Change.Align a) (writtenAlign a)
   unfolding writtenAlign setting alignment same isEmpty
   align-written Align.Start = (align-read Align.Start (ascii "start") refl refl, tt)
   align-written Align.Center = tt
@@ -211,31 +211,28 @@ module _ (p : ℕ) (c : CueSettings) where
   align-written Align.Left = (align-read Align.Left (ascii "left") refl refl, tt)
   align-written Align.Right = (align-read Align.Right (ascii "right") refl refl, tt)
 
-  pub size-read : (m : ℕ) → m ≤ 100_000_000 → cueSetting (settingAt p (ascii "size") (writtenPercentage m)) c ≡ taken (setSize m c)
-  unfolding absent isEmpty named same sizeOf
+  size-read : (m : ℕ) → m ≤ 100_000_000 → cueChange (settingAt p (ascii "size") (writtenPercentage m)) s ≡ Change.Size m
+  unfolding absent isEmpty named same sizeChange
   size-read m h =
-      setting-read p (ascii "size") (writtenPercentage m) c refl refl (writtenPercentage-some m)
-      ∙ ap (λ o. taken (sizeOf o c)) (percentage-read m h)
+      setting-read p (ascii "size") (writtenPercentage m) s refl refl (writtenPercentage-some m)
+      ∙ ap sizeChange (percentage-read m h)
 
-  pub region-read :
-      (name : List ℕ)
-      → isEmpty name ≡ false
-      → cueSetting (settingAt p (ascii "region") name) c ≡ taken (setRegion (record { place = p + 7; bytes = name }) c)
+  region-read : (name : List ℕ) → isEmpty name ≡ false → cueChange (settingAt p (ascii "region") name) s ≡ Change.Region
   unfolding absent isEmpty named same
-  region-read name f = setting-read p (ascii "region") name c refl refl f
+  region-read name f = setting-read p (ascii "region") name s refl refl f
 
-  pub position-read :
+  position-read :
       (m : ℕ) (a : PositionAlign)
       → m ≤ 100_000_000
-      → (a ≡ PositionAlign.Auto → c .position .align ≡ PositionAlign.Auto)
-      → cueSetting (settingAt p (ascii "position") (writtenPercentage m ++ writtenPositionAlign a)) c
-      ≡ taken (setPosition (record { position = Position.At m; align = a }) c)
-  unfolding absent isEmpty named same positionSetting positionGiven
+      → (a ≡ PositionAlign.Auto → s .position .align ≡ PositionAlign.Auto)
+      → cueChange (settingAt p (ascii "position") (writtenPercentage m ++ writtenPositionAlign a)) s
+      ≡ Change.Position (record { position = Position.At m; align = a })
+  unfolding absent isEmpty named same positionChange positionAligned
   position-read m a h o =
-      let s = writtenPercentage m in
-      let x = s ++ writtenPositionAlign a in
-      setting-read p (ascii "position") x c refl refl (some-append s (writtenPositionAlign a) (writtenPercentage-some m))
-      ∙ rw (position-before s a (percentage-absent m), percentage-read m h, position-align s a (c .position .align) (percentage-absent m) o)
+      let w = writtenPercentage m in
+      let x = w ++ writtenPositionAlign a in
+      setting-read p (ascii "position") x s refl refl (some-append w (writtenPositionAlign a) (writtenPercentage-some m))
+      ∙ rw (position-before w a (percentage-absent m), percentage-read m h, position-align w a (s .position .align) (percentage-absent m) o)
 
 -- a line's number: with snap, up to the limit and with no minus zero; without, a percentage
 pub data LineNumbered : Bool → Bool → ℕ → Type 0 where
@@ -249,30 +246,30 @@ number-some true false m = writtenDecimal-some m
 number-some false negative m = writtenPercentage-some m
 
 line-number :
-    (x : List ℕ) (c : CueSettings) (snap negative : Bool) (m : ℕ) (a : LineAlign)
+    (x : List ℕ) (old : LineAlign) (snap negative : Bool) (m : ℕ) (a : LineAlign)
     → LineNumbered snap negative m
     → beforeFirst comma x ≡ writtenLineNumber snap negative m
-    → lineAlign x (c .line .align) ≡ some a
-    → lineSetting x c ≡ taken (setLine (record { line = Line.At negative m; snap = snap; align = a }) c)
-unfolding lineSetting linePercentage lineCounted writtenLineNumber
-line-number x c true negative m a (counted h z) b e =
+    → lineAlign x old ≡ some a
+    → lineChange x old ≡ Change.Line (record { line = Line.At negative m; snap = snap; align = a })
+unfolding lineChange lineAligned linePercentage lineCounted writtenLineNumber
+line-number x old true negative m a (counted h z) b e =
     let r = line-read negative m h z in
     rw (b, e, line-ends true negative m, r .read, r .within, r .sign, r .value)
-line-number x c false false m a (parted h) b e = rw (b, e, line-ends false false m, percentage-read m h)
+line-number x old false false m a (parted h) b e = rw (b, e, line-ends false false m, percentage-read m h)
 
-pub line-setting-read :
-    (p : ℕ) (c : CueSettings) (snap negative : Bool) (m : ℕ) (a : LineAlign)
+line-setting-read :
+    (p : ℕ) (s : Settings) (snap negative : Bool) (m : ℕ) (a : LineAlign)
     → LineNumbered snap negative m
-    → (a ≡ LineAlign.Start → c .line .align ≡ LineAlign.Start)
-    → cueSetting (settingAt p (ascii "line") (writtenLineNumber snap negative m ++ writtenLineAlign a)) c
-    ≡ taken (setLine (record { line = Line.At negative m; snap = snap; align = a }) c)
+    → (a ≡ LineAlign.Start → s .line .align ≡ LineAlign.Start)
+    → cueChange (settingAt p (ascii "line") (writtenLineNumber snap negative m ++ writtenLineAlign a)) s
+    ≡ Change.Line (record { line = Line.At negative m; snap = snap; align = a })
 unfolding absent isEmpty named same
-line-setting-read p c snap negative m a n o =
-    let s = writtenLineNumber snap negative m in
-    let x = s ++ writtenLineAlign a in
+line-setting-read p s snap negative m a n o =
+    let w = writtenLineNumber snap negative m in
+    let x = w ++ writtenLineAlign a in
     let h = line-absent snap negative m in
-    setting-read p (ascii "line") x c refl refl (some-append s (writtenLineAlign a) (number-some snap negative m))
-    ∙ line-number x c snap negative m a n (line-before s a h) (line-align s a (c .line .align) h o)
+    setting-read p (ascii "line") x s refl refl (some-append w (writtenLineAlign a) (number-some snap negative m))
+    ∙ line-number x (s .line .align) snap negative m a n (line-before w a h) (line-align w a (s .line .align) h o)
 
 -- each is a token
 setting-token :
@@ -343,41 +340,49 @@ line-token snap negative m a =
     setting-token (ascii "line") (writtenLineNumber snap negative m ++ writtenLineAlign a) refl refl
     (all-append black (writtenLineNumber snap negative m) (writtenLineAlign a) (number-black snap negative m) (line-black a))
 
--- texts that are tokens, and that turn settings into others wherever they stand
-record Sets (ts : List (List ℕ)) (c d : CueSettings) : Type 0 where
-  token : All (λ t. isToken t ≡ true) ts
-  read : (p : ℕ) → settingsFrom (taken c) (partsAt p ts) ≡ taken d
+-- settings with no region
+abbrev unasked : Settings → CueSettings
+unasked s = record { settings = s; region = emptyPart }
 
-settings-append : (s : Taken) (a b : List Part) → settingsFrom s (a ++ b) ≡ settingsFrom (settingsFrom s a) b
-unfolding settingsFrom
-settings-append s [] b = refl
-settings-append s (t ∷ a) b = settings-append _ a b
+-- texts that are tokens, and that turn settings with no region into others with none, wherever they stand
+record Sets (ts : List (List ℕ)) (c d : Settings) : Type 0 where
+  token : All (λ t. isToken t ≡ true) ts
+  read : (p : ℕ) → folded cueSetting (unflagged (unasked c)) (partsAt p ts) ≡ unflagged (unasked d)
+
+fold-append : {A : Type 0} (f : Part → A → Flagged A) (v : Flagged A) (a b : List Part) → folded f v (a ++ b) ≡ folded f (folded f v a) b
+unfolding folded
+fold-append f v [] b = refl
+fold-append f v (t ∷ a) b = fold-append f _ a b
 
 settings-lines :
-    (c d : CueSettings) (p : ℕ) (xs ys : List (List ℕ))
+    (c d : Settings) (p : ℕ) (xs ys : List (List ℕ))
     → Sets xs c d
-    → settingsFrom (taken c) (partsAt p (xs ++ ys)) ≡ settingsFrom (taken d) (partsAt (p + length (lineEnded xs)) ys)
+    → folded cueSetting (unflagged (unasked c)) (partsAt p (xs ++ ys))
+    ≡ folded cueSetting (unflagged (unasked d)) (partsAt (p + length (lineEnded xs)) ys)
 settings-lines c d p xs ys f =
-    rw (parts-append p xs ys, settings-append (taken c) (partsAt p xs) (partsAt (p + length (lineEnded xs)) ys), f .read p)
+    rw (parts-append p xs ys, fold-append cueSetting (unflagged (unasked c)) (partsAt p xs) (partsAt (p + length (lineEnded xs)) ys), f .read p)
 
-sets-both : {c d e : CueSettings} {xs ys : List (List ℕ)} → Sets xs c d → Sets ys d e → Sets (xs ++ ys) c e
+sets-both : {c d e : Settings} {xs ys : List (List ℕ)} → Sets xs c d → Sets ys d e → Sets (xs ++ ys) c e
 sets-both {c} {d} {e} {xs} {ys} f g =
     record {
       token = Standing.all-append (λ t. isToken t ≡ true) xs ys (f .token) (g .token);
       read = λ p. settings-lines c d p xs ys f ∙ g .read (p + length (lineEnded xs));
     }
 
-sets-none : (c : CueSettings) → Sets [] c c
-unfolding settingsFrom partsAt
-sets-none c = record { token = tt; read = λ p. refl }
+sets-none : (s : Settings) → Sets [] s s
+unfolding folded partsAt
+sets-none s = record { token = tt; read = λ p. refl }
 
+-- one token that makes a change, which leaves no region where there is none
 sets-one :
-    {t : List ℕ} {c d : CueSettings}
+    {t : List ℕ} (h : Change) (s : Settings)
     → isToken t ≡ true
-    → ((p : ℕ) → cueSetting (record { place = p; bytes = t }) c ≡ taken d)
-    → Sets (t ∷ []) c d
-unfolding settingsFrom partsAt
-sets-one h f = record { token = (h, tt); read = λ p. rw (f p) }
+    → ((p : ℕ) → cueChange (record { place = p; bytes = t }) s ≡ h)
+    → ((x : Part) → nameAfter emptyPart h x emptyPart ≡ emptyPart)
+    → isOver h ≡ false
+    → Sets (t ∷ []) s (settingsAfter h s)
+unfolding folded partsAt cueSetting changed
+sets-one h s k f e o = record { token = (k, tt); read = λ p. rw (f p, e, o) }
 
 -- what can be set: a line and a position that are auto with the opening alignment, or a number; a region with a token for a name
 pub data LineSettable : LinePlace → Type 0 where
@@ -400,78 +405,75 @@ pub data RegionSettable : List RegionContents → Option ℕ → Type 0 where
   regionAt : {rs : List RegionContents} {i : ℕ} → isToken (regionName rs (some i)) ≡ true → RegionSettable rs (some i)
 
 pub record Settable (rs : List RegionContents) (c : CueContents) : Type 0 where
-  pub line : LineSettable (c .line)
-  pub position : PositionSettable (c .position)
-  pub size : c .size ≤ 100_000_000
+  pub line : LineSettable (c .settings .line)
+  pub position : PositionSettable (c .settings .position)
+  pub size : c .settings .size ≤ 100_000_000
   pub region : RegionSettable rs (c .region)
 
--- settings with no region
-abbrev soFar : Direction → LinePlace → PositionPlace → ℕ → Align → CueSettings
-soFar v l q n a = record { vertical = v; line = l; position = q; size = n; align = a; region = emptyPart }
+abbrev five : Direction → LinePlace → PositionPlace → ℕ → Align → Settings
+five v l q n a = record { vertical = v; line = l; position = q; size = n; align = a }
 
 sets-vertical :
     (d : Direction) (l : LinePlace) (q : PositionPlace) (n : ℕ) (a : Align)
-    → Sets (writtenVertical d) (soFar Direction.Horizontal l q n a) (soFar d l q n a)
-unfolding writtenVertical setting setVertical
-sets-vertical Direction.Horizontal l q n a = sets-none (soFar Direction.Horizontal l q n a)
+    → Sets (writtenVertical d) (five Direction.Horizontal l q n a) (five d l q n a)
+unfolding writtenVertical setting
+sets-vertical Direction.Horizontal l q n a = sets-none (five Direction.Horizontal l q n a)
 sets-vertical Direction.Rl l q n a =
-    sets-one (vertical-token Direction.Rl .0) (λ p. vertical-written p (soFar Direction.Horizontal l q n a) Direction.Rl .0)
+    let s = five Direction.Horizontal l q n a in
+    sets-one (Change.Vertical Direction.Rl) s (vertical-token Direction.Rl .0) (λ p. vertical-written p s Direction.Rl .0) (λ x. refl) refl
 sets-vertical Direction.Lr l q n a =
-    sets-one (vertical-token Direction.Lr .0) (λ p. vertical-written p (soFar Direction.Horizontal l q n a) Direction.Lr .0)
+    let s = five Direction.Horizontal l q n a in
+    sets-one (Change.Vertical Direction.Lr) s (vertical-token Direction.Lr .0) (λ p. vertical-written p s Direction.Lr .0) (λ x. refl) refl
 
 module _ (v : Direction) where
   sets-line :
       (l : LinePlace) (q : PositionPlace) (n : ℕ) (a : Align)
       → LineSettable l
-      → Sets (writtenLine l) (soFar v (openingSettings .line) q n a) (soFar v l q n a)
-  unfolding writtenLine setting setLine
-  sets-line l q n a autoLine = sets-none (soFar v l q n a)
+      → Sets (writtenLine l) (five v (openingSettings .line) q n a) (five v l q n a)
+  unfolding writtenLine setting
+  sets-line l q n a autoLine = sets-none (five v l q n a)
   sets-line l q n a (lineAt {snap} {negative} {m} {b} h) =
-      sets-one (line-token snap negative m b)
-      (λ p. line-setting-read p (soFar v (openingSettings .line) q n a) snap negative m b h (λ e. refl))
+      let s = five v (openingSettings .line) q n a in
+      sets-one (Change.Line (record { line = Line.At negative m; snap = snap; align = b })) s (line-token snap negative m b)
+      (λ p. line-setting-read p s snap negative m b h (λ e. refl)) (λ x. refl) refl
 
   sets-position :
       (l : LinePlace) (q : PositionPlace) (n : ℕ) (a : Align)
       → PositionSettable q
-      → Sets (writtenPosition q) (soFar v l (openingSettings .position) n a) (soFar v l q n a)
-  unfolding writtenPosition setting setPosition
-  sets-position l q n a autoPosition = sets-none (soFar v l q n a)
+      → Sets (writtenPosition q) (five v l (openingSettings .position) n a) (five v l q n a)
+  unfolding writtenPosition setting
+  sets-position l q n a autoPosition = sets-none (five v l q n a)
   sets-position l q n a (positionAt {m} {b} h) =
-      sets-one (position-token m b) (λ p. position-read p (soFar v l (openingSettings .position) n a) m b h (λ e. refl))
+      let s = five v l (openingSettings .position) n a in
+      sets-one (Change.Position (record { position = Position.At m; align = b })) s (position-token m b)
+      (λ p. position-read p s m b h (λ e. refl)) (λ x. refl) refl
 
   sets-size :
       (l : LinePlace) (q : PositionPlace) (n : ℕ) (a : Align)
       → n ≤ 100_000_000
-      → Sets (writtenSize n) (soFar v l q 100_000_000 a) (soFar v l q n a)
-  unfolding writtenSize setting setSize
+      → Sets (writtenSize n) (five v l q 100_000_000 a) (five v l q n a)
+  unfolding writtenSize setting
   sets-size l q n a h =
+      let s = five v l q 100_000_000 a in
       by-test (eqb n 100_000_000)
-      (λ y. rw (y, eqb-true n 100_000_000 y) (sets-none (soFar v l q 100_000_000 a)))
-      (λ z. rw z (sets-one (size-token n) (λ p. size-read p (soFar v l q 100_000_000 a) n h ∙ rw z)))
+      (λ y. rw (y, eqb-true n 100_000_000 y) (sets-none s))
+      (λ z. rw z (sets-one (Change.Size n) s (size-token n) (λ p. size-read p s n h) (λ x. rw z) refl))
 
-  sets-align : (l : LinePlace) (q : PositionPlace) (n : ℕ) (a : Align) → Sets (writtenAlign a) (soFar v l q n Align.Center) (soFar v l q n a)
-  unfolding writtenAlign setting setAlign
-  sets-align l q n Align.Start = sets-one (align-token Align.Start .0) (λ p. align-written p (soFar v l q n Align.Center) Align.Start .0)
-  sets-align l q n Align.Center = sets-none (soFar v l q n Align.Center)
-  sets-align l q n Align.End = sets-one (align-token Align.End .0) (λ p. align-written p (soFar v l q n Align.Center) Align.End .0)
-  sets-align l q n Align.Left = sets-one (align-token Align.Left .0) (λ p. align-written p (soFar v l q n Align.Center) Align.Left .0)
-  sets-align l q n Align.Right = sets-one (align-token Align.Right .0) (λ p. align-written p (soFar v l q n Align.Center) Align.Right .0)
+  sets-align : (l : LinePlace) (q : PositionPlace) (n : ℕ) (a : Align) → Sets (writtenAlign a) (five v l q n Align.Center) (five v l q n a)
+  unfolding writtenAlign setting
+  sets-align l q n Align.Start = let s = five v l q n Align.Center in sets-one (Change.Align Align.Start) s (align-token Align.Start .0) (λ p. align-written p s Align.Start .0) (λ x. refl) refl
+  sets-align l q n Align.Center = sets-none (five v l q n Align.Center)
+  sets-align l q n Align.End = let s = five v l q n Align.Center in sets-one (Change.Align Align.End) s (align-token Align.End .0) (λ p. align-written p s Align.End .0) (λ x. refl) refl
+  sets-align l q n Align.Left = let s = five v l q n Align.Center in sets-one (Change.Align Align.Left) s (align-token Align.Left .0) (λ p. align-written p s Align.Left .0) (λ x. refl) refl
+  sets-align l q n Align.Right = let s = five v l q n Align.Center in sets-one (Change.Align Align.Right) s (align-token Align.Right .0) (λ p. align-written p s Align.Right .0) (λ x. refl) refl
 
 -- the settings of contents, with the name of the region that they ask for
-abbrev pub settingsOf : List RegionContents → CueContents → ℕ → CueSettings
-settingsOf rs c place =
-    record {
-      vertical = c .vertical;
-      line = c .line;
-      position = c .position;
-      size = c .size;
-      align = c .align;
-      region = record { place = place; bytes = regionName rs (c .region) };
-    }
+abbrev pub namedAt : List RegionContents → CueContents → ℕ → Part
+namedAt rs c place = record { place = place; bytes = regionName rs (c .region) }
 
-pub record SettingsRead (rs : List RegionContents) (c : CueContents) (s : Taken) : Type 0 where
+pub record SettingsRead (rs : List RegionContents) (c : CueContents) (v : Flagged CueSettings) : Type 0 where
   pub place : ℕ
-  pub is : s ≡ taken (settingsOf rs c place)
+  pub is : v ≡ unflagged (record { settings = c .settings; region = namedAt rs c place })
 
 -- a region comes last: nothing after it clears it
 regionPlace : Option ℕ → ℕ → ℕ
@@ -479,15 +481,15 @@ regionPlace none p = 0
 regionPlace (some i) p = p + 7
 
 sets-region :
-    (v : Direction) (l : LinePlace) (q : PositionPlace) (n : ℕ) (a : Align) (rs : List RegionContents) (o : Option ℕ) (p : ℕ)
+    (s : Settings) (rs : List RegionContents) (o : Option ℕ) (p : ℕ)
     → RegionSettable rs o
-    → settingsFrom (taken (soFar v l q n a)) (partsAt p (writtenRegionName rs o))
-    ≡ taken (setRegion (record { place = regionPlace o p; bytes = regionName rs o }) (soFar v l q n a))
-unfolding writtenRegionName regionPlace setting settingsFrom partsAt setRegion isToken
-sets-region v l q n a rs none p noRegion = refl
-sets-region v l q n a rs (some i) p (regionAt t) =
+    → folded cueSetting (unflagged (unasked s)) (partsAt p (writtenRegionName rs o))
+    ≡ unflagged (record { settings = s; region = record { place = regionPlace o p; bytes = regionName rs o } })
+unfolding writtenRegionName regionPlace setting folded partsAt cueSetting changed isToken absent
+sets-region s rs none p noRegion = refl
+sets-region s rs (some i) p (regionAt t) =
     let name = regionName rs (some i) in
-    rw (region-read p (soFar v l q n a) name (not-left (isEmpty name) (all black name) t))
+    rw (region-read p s name (not-left (isEmpty name) (all black name) t), setting-value (settingAt p (ascii "region") name) (ascii "region") name refl refl)
 
 region-tokens : (rs : List RegionContents) (o : Option ℕ) → RegionSettable rs o → All (λ t. isToken t ≡ true) (writtenRegionName rs o)
 unfolding writtenRegionName setting
@@ -495,41 +497,36 @@ region-tokens rs none noRegion = tt
 region-tokens rs (some i) (regionAt t) = (region-token (regionName rs (some i)) t, tt)
 
 module _ (rs : List RegionContents) (c : CueContents) (h : Settable rs c) where
-  withoutRegion : List (List ℕ)
-  withoutRegion =
-      writtenVertical (c .vertical) ++ writtenLine (c .line) ++ writtenPosition (c .position) ++ writtenSize (c .size) ++ writtenAlign (c .align)
-
-  sets-five : Sets withoutRegion openingSettings (soFar (c .vertical) (c .line) (c .position) (c .size) (c .align))
-  unfolding withoutRegion
+  sets-five : Sets (writtenFive (c .settings)) openingSettings (c .settings)
+  unfolding writtenFive
   sets-five =
-      let v = c .vertical in
-      let l = c .line in
-      let q = c .position in
-      let n = c .size in
+      let v = c .settings .vertical in
+      let l = c .settings .line in
+      let q = c .settings .position in
+      let n = c .settings .size in
       let q₀ = openingSettings .position in
       let n₀ = openingSettings .size in
       let a₀ = openingSettings .align in
       let two = sets-both (sets-vertical v (openingSettings .line) q₀ n₀ a₀) (sets-line v l q₀ n₀ a₀ (h .line)) in
       let three = sets-both two (sets-position v l q n₀ a₀ (h .position)) in
-      sets-both (sets-both three (sets-size v l q n a₀ (h .size))) (sets-align v l q n (c .align))
+      sets-both (sets-both three (sets-size v l q n a₀ (h .size))) (sets-align v l q n (c .settings .align))
 
   pub settings-tokens : All (λ t. isToken t ≡ true) (writtenSettings rs c)
-  unfolding writtenSettings withoutRegion
+  unfolding writtenSettings
   settings-tokens =
-      Standing.all-append (λ t. isToken t ≡ true) withoutRegion (writtenRegionName rs (c .region)) (sets-five .token)
+      Standing.all-append (λ t. isToken t ≡ true) (writtenFive (c .settings)) (writtenRegionName rs (c .region)) (sets-five .token)
       (region-tokens rs (c .region) (h .region))
 
   pub settings-read : (p : ℕ) → SettingsRead rs c (cueSettings (record { place = p; bytes = afterSpaces (writtenSettings rs c) }))
-  unfolding cueSettings writtenSettings withoutRegion setRegion
+  unfolding cueSettings writtenSettings
   settings-read p =
-      let now = soFar (c .vertical) (c .line) (c .position) (c .size) (c .align) in
-      let q = suc p + length (lineEnded withoutRegion) in
+      let q = suc p + length (lineEnded (writtenFive (c .settings))) in
       record {
         place = regionPlace (c .region) q;
         is =
-            ap (settingsFrom (taken openingSettings)) (tokens-afterSpaces p (writtenSettings rs c) settings-tokens)
-            ∙ settings-lines openingSettings now (suc p) withoutRegion (writtenRegionName rs (c .region)) sets-five
-            ∙ sets-region (c .vertical) (c .line) (c .position) (c .size) (c .align) rs (c .region) q (h .region);
+            ap (folded cueSetting (unflagged (unasked openingSettings))) (tokens-afterSpaces p (writtenSettings rs c) settings-tokens)
+            ∙ settings-lines openingSettings (c .settings) (suc p) (writtenFive (c .settings)) (writtenRegionName rs (c .region)) sets-five
+            ∙ sets-region (c .settings) rs (c .region) q (h .region);
       }
 
 -- two times with an arrow between them
@@ -549,7 +546,7 @@ module _ (start end : ℕ) (rest : List ℕ) where
 -- the timing line of contents
 pub record TimingRead (rs : List RegionContents) (c : CueContents) (o : Option Timing) : Type 0 where
   pub place : ℕ
-  pub is : o ≡ some (record { start = c .start; end = c .end; settings = settingsOf rs c place; over = false })
+  pub is : o ≡ some (record { start = c .start; end = c .end; settings = c .settings; region = namedAt rs c place; over = false })
 
 time-line : (ms : ℕ) → absent lf (writtenTime ms) ≡ true
 unfolding numeral digit
@@ -687,7 +684,7 @@ pub record CueWritable (rs : List RegionContents) (c : CueContents) : Type 0 whe
 pub tests-writable :
     (rs : List RegionContents) (o : Option ℕ) (c : CueContents)
     → All (λ t. t ≡ true) (cueTests c)
-    → Signed (c .line .line)
+    → Signed (c .settings .line .line)
     → cueTest6 (map (λ r. r .id) rs) o ≡ true
     → ((i : ℕ) → all black (regionName rs (some i)) ≡ true)
     → CueWritable rs (withRegion o c)
@@ -698,15 +695,15 @@ tests-writable rs o c tests signed allowed names =
     let fits = tests .1 .1 .1 .0 in
     let before = ltb-true (c .start) (c .end) (and-left (ltb (c .start) (c .end)) (ltb (c .end) 360_000_000_000) times) in
     let within = ltb-true (c .end) 360_000_000_000 (and-right (ltb (c .start) (c .end)) (ltb (c .end) 360_000_000_000) times) in
-    let line = lineFits (c .line) in
-    let position = positionFits (c .position) in
-    let size = leb (c .size) 100_000_000 in
+    let line = lineFits (c .settings .line) in
+    let position = positionFits (c .settings .position) in
+    let size = leb (c .settings .size) 100_000_000 in
     let others = and-right line (position && size) fits in
     record {
       settable = record {
-        line = line-fits (c .line .line) (c .line .snap) (c .line .align) signed (and-left line (position && size) fits);
-        position = position-fits (c .position .position) (c .position .align) (and-left position size others);
-        size = leb-true (c .size) 100_000_000 (and-right position size others);
+        line = line-fits (c .settings .line .line) (c .settings .line .snap) (c .settings .line .align) signed (and-left line (position && size) fits);
+        position = position-fits (c .settings .position .position) (c .settings .position .align) (and-left position size others);
+        size = leb-true (c .settings .size) 100_000_000 (and-right position size others);
         region = region-allowed rs o allowed names;
       };
       start = omega arith;

@@ -26,7 +26,7 @@ use Rattle.laws.proofs.Standing.{All, bytes-lines}
 use Rattle.laws.proofs.Standing as Standing
 use Rattle.laws.proofs.Contents.{contents-same, over-same}
 use Rattle.roundtrip.proofs.Shape.{Block, fileOf, blocks-file, signature-file, cue-block, style-block, cue-means, style-means, none-fails}
-use Rattle.roundtrip.proofs.Cues.{regionName, settingsOf, timing-arrow, timing-line, TimingRead, timing-read, CueWritable, cue-writable}
+use Rattle.roundtrip.proofs.Cues.{regionName, namedAt, timing-arrow, timing-line, TimingRead, timing-read, CueWritable, cue-writable}
 use Rattle.roundtrip.proofs.Regions.{Regional, regionLines-block, regionLines-mean, region-passes}
 use Rattle.roundtrip.proofs.Plain.{all-map, plain-written, rows-plain}
 
@@ -115,7 +115,7 @@ cue-read rs read seen c e f =
     subst (λ b. TimingRead rs c (timingLine (record { place = l .place; bytes = b }))) (sym (m .timed))
     (timing-read rs c (l .place) (f .start) (f .end) (f .settable)) in
     record {
-      values = record { id = m .name; start = c .start; end = c .end; settings = settingsOf rs c (t .place); text = joined (m .rest) };
+      values = record { id = m .name; start = c .start; end = c .end; settings = c .settings; region = namedAt rs c (t .place); text = joined (m .rest) };
       is = m .is ∙ ap (cueOf (m .name) (m .rest)) (t .is);
       same = rw (m .named, m .says, region-back rs read (c .region) (t .place) e (f .region));
     }

@@ -17,7 +17,7 @@ use Rattle.format.specs.Rows.{cueCodesNamed, regionCodesNamed, cueEntry, region
 use Rattle.format.specs.Writable.{partPlain, cueTest1, regionTest1, styleTest1}
 use Rattle.format.specs.Written.{decimalIn, writtenTime, writtenDecimal, writtenPercentage, setting, writtenVertical, writtenLineAlign}
 use Rattle.format.specs.Written.{writtenLineNumber, writtenLine, writtenPositionAlign, writtenPosition, writtenSize, writtenAlign}
-use Rattle.format.specs.Written.{writtenRegionName, writtenSettings, afterSpaces, writtenTiming, linesOf, cueLines, writtenPoint, writtenId}
+use Rattle.format.specs.Written.{writtenRegionName, writtenFive, writtenSettings, afterSpaces, writtenTiming, linesOf, cueLines, writtenPoint, writtenId}
 use Rattle.format.specs.Written.{writtenScroll, regionLines, styleLines, apart, fileLines, lineEnded, written}
 use Rattle.format.specs.declared.settings.Direction.{Direction}
 use Rattle.format.specs.declared.settings.Direction.the-variants as Direction
@@ -270,21 +270,21 @@ pub record PlainCue (c : CueContents) : Type 0 where
 
 module _ (rs : List RegionContents) (c : CueContents) (h : All Plain (writtenRegionName rs (c .region))) where
   plain-settings : All Plain (writtenSettings rs c)
-  unfolding writtenSettings
+  unfolding writtenSettings writtenFive
   plain-settings =
-      let vertical = writtenVertical (c .vertical) in
-      let line = writtenLine (c .line) in
-      let position = writtenPosition (c .position) in
-      let size = writtenSize (c .size) in
-      let align = writtenAlign (c .align) in
+      let vertical = writtenVertical (c .settings .vertical) in
+      let line = writtenLine (c .settings .line) in
+      let position = writtenPosition (c .settings .position) in
+      let size = writtenSize (c .settings .size) in
+      let align = writtenAlign (c .settings .align) in
       Standing.all-append Plain (vertical ++ line ++ position ++ size ++ align) (writtenRegionName rs (c .region))
       (Standing.all-append Plain (vertical ++ line ++ position ++ size) align
       (Standing.all-append Plain (vertical ++ line ++ position) size
       (Standing.all-append Plain (vertical ++ line) position
-      (Standing.all-append Plain vertical line (plain-vertical (c .vertical)) (plain-line (c .line .line) (c .line .snap) (c .line .align)))
-      (plain-position (c .position .position) (c .position .align)))
-      (plain-size (c .size)))
-      (plain-align (c .align)))
+      (Standing.all-append Plain vertical line (plain-vertical (c .settings .vertical)) (plain-line (c .settings .line .line) (c .settings .line .snap) (c .settings .line .align)))
+      (plain-position (c .settings .position .position) (c .settings .position .align)))
+      (plain-size (c .settings .size)))
+      (plain-align (c .settings .align)))
       h
 
   pub plain-timing : Plain (writtenTiming rs c)

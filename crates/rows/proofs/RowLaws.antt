@@ -62,15 +62,15 @@ last-code w a b c d e f =
 -- a row whose coded words are those of the entry's choices
 pub row-is :
     (e : CueEntry) {d l n s la p m pa a i : ℕ}
-    → d ≡ directionWord (e .vertical)
-    → l ≡ lineWord (e .line .line)
-    → n ≡ lineNumberWord (e .line .line)
-    → s ≡ snapWord (e .line .snap)
-    → la ≡ lineAlignWord (e .line .align)
-    → p ≡ positionWord (e .position .position)
-    → m ≡ positionNumberWord (e .position .position)
-    → pa ≡ positionAlignWord (e .position .align)
-    → a ≡ alignWord (e .align)
+    → d ≡ directionWord (e .settings .vertical)
+    → l ≡ lineWord (e .settings .line .line)
+    → n ≡ lineNumberWord (e .settings .line .line)
+    → s ≡ snapWord (e .settings .line .snap)
+    → la ≡ lineAlignWord (e .settings .line .align)
+    → p ≡ positionWord (e .settings .position .position)
+    → m ≡ positionNumberWord (e .settings .position .position)
+    → pa ≡ positionAlignWord (e .settings .position .align)
+    → a ≡ alignWord (e .settings .align)
     → i ≡ regionWord (e .region)
     → e .id .from
     ∷ e .id .to
@@ -86,7 +86,7 @@ pub row-is :
     ∷ p
     ∷ m
     ∷ pa
-    ∷ e .size
+    ∷ e .settings .size
     ∷ a
     ∷ i
     ∷ []

@@ -41,13 +41,13 @@ pub fn text(row: CueRow) -> Span
 }
 
 pub fn vertical(row: CueRow) -> Direction
-    ensures { λ r. ⌜ r ≡ cueEntry row .vertical ⌝ }
+    ensures { λ r. ⌜ r ≡ cueEntry row .settings .vertical ⌝ }
 {
     choices::direction(row[CUE_VERTICAL])
 }
 
 pub fn line(row: CueRow) -> LinePlace
-    ensures { λ r. ⌜ r ≡ cueEntry row .line ⌝ }
+    ensures { λ r. ⌜ r ≡ cueEntry row .settings .line ⌝ }
 {
     LinePlace {
         line: choices::line(row[CUE_LINE], row[CUE_LINE_NUMBER]),
@@ -57,7 +57,7 @@ pub fn line(row: CueRow) -> LinePlace
 }
 
 pub fn position(row: CueRow) -> PositionPlace
-    ensures { λ r. ⌜ r ≡ cueEntry row .position ⌝ }
+    ensures { λ r. ⌜ r ≡ cueEntry row .settings .position ⌝ }
 {
     PositionPlace {
         position: choices::position(row[CUE_POSITION], row[CUE_POSITION_NUMBER]),
@@ -67,13 +67,13 @@ pub fn position(row: CueRow) -> PositionPlace
 
 // A percentage, in millionths.
 pub fn size(row: CueRow) -> u64
-    ensures { λ r. ⌜ r ≡ cueEntry row .size ⌝ }
+    ensures { λ r. ⌜ r ≡ cueEntry row .settings .size ⌝ }
 {
     row[CUE_SIZE]
 }
 
 pub fn align(row: CueRow) -> Align
-    ensures { λ r. ⌜ r ≡ cueEntry row .align ⌝ }
+    ensures { λ r. ⌜ r ≡ cueEntry row .settings .align ⌝ }
 {
     choices::align(row[CUE_ALIGN])
 }

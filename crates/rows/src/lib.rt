@@ -16,14 +16,15 @@ ghost use Rattle.format.specs.Rows.{cueWords, newCueWords, regionWords, styleWo
 pub fn cue_row(entry: CueEntry) -> CueRow
     ensures { λ r. ⌜ r ≡ cueWords entry ⌝ }
 {
-    let vertical = entry.vertical;
-    let place = entry.line;
+    let settings = entry.settings;
+    let vertical = settings.vertical;
+    let place = settings.line;
     let line = place.line;
     let align = place.align;
-    let at = entry.position;
+    let at = settings.position;
     let position = at.position;
     let anchor = at.align;
-    let across = entry.align;
+    let across = settings.align;
     let region = entry.region;
     [
         entry.id.from as u64,
@@ -40,7 +41,7 @@ pub fn cue_row(entry: CueEntry) -> CueRow
         words::position(position),
         words::position_number(position),
         words::position_align(anchor),
-        entry.size,
+        settings.size,
         words::align(across),
         words::region(region),
     ]

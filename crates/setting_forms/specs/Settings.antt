@@ -4,7 +4,7 @@ use mathlib.Core.Bool.{Bool, cond}
 use mathlib.Core.List.{List, [], _++_}
 use mathlib.Core.Option.{Option, none, some}
 use Rattle.format.specs.Bytes.{ascii}
-use Rattle.format.specs.Written.{setting, writtenVertical, writtenLine, writtenPosition, writtenSize, writtenAlign}
+use Rattle.format.specs.Written.{setting, writtenFive}
 use Rattle.format.specs.declared.rows.CueEntry.{CueEntry}
 
 -- the name of the region that a cue asks for, if it asks for one
@@ -16,10 +16,4 @@ namedRegion none = []
 namedRegion (some name) = setting (ascii "region") name
 
 unfoldable pub settingsForm : CueEntry → Option (List ℕ) → List (List ℕ)
-settingsForm e name =
-    writtenVertical (e .vertical)
-    ++ writtenLine (e .line)
-    ++ writtenPosition (e .position)
-    ++ writtenSize (e .size)
-    ++ writtenAlign (e .align)
-    ++ namedRegion name
+settingsForm e name = writtenFive (e .settings) ++ namedRegion name

@@ -5,7 +5,7 @@ use mathlib.Core.List.{List}
 use mathlib.Core.Option.{Option, none, some}
 use lib.ListN.{length}
 use Rattle.format.specs.Times.{Result, failed, got}
-use Rattle.format.specs.CueSettings.{settingsIs, cueSettings}
+use Rattle.format.specs.CueSettings.{spanIs, cueSettings}
 use Rattle.format.specs.TimingLines as Format
 use Rattle.values.specs.Tokens.{tokenFrom}
 use Rattle.values.specs.declared.times.Stamp.{Stamp}
@@ -23,7 +23,7 @@ arrowIs n (got u rest) = ArrowEnd.At (n - length rest)
 abbrev pub withSettingsIs : List ℕ → Bool → ℕ → ℕ → ℕ → TimingLine
 withSettingsIs s over start end at =
     cond (over || cueSettings (tokenFrom s at) .over) TimingLine.Over
-    (TimingLine.Good (record { start = start; end = end; settings = settingsIs (cueSettings (tokenFrom s at) .settings) }))
+    (TimingLine.Good (record { start = start; end = end; settings = cueSettings (tokenFrom s at) .value .settings; region = spanIs (cueSettings (tokenFrom s at) .value .region) }))
 
 abbrev pub lineFrom : List ℕ → Bool → ℕ → Stamp → TimingLine
 lineFrom s over start Stamp.Bad = TimingLine.Bad
@@ -33,4 +33,4 @@ lineFrom s over start (Stamp.At ms next) = withSettingsIs s over start ms next
 abbrev pub timingLineIs : Option Format.Timing → TimingLine
 timingLineIs none = TimingLine.Bad
 timingLineIs (some t) =
-    cond (t .over) TimingLine.Over (TimingLine.Good (record { start = t .start; end = t .end; settings = settingsIs (t .settings) }))
+    cond (t .over) TimingLine.Over (TimingLine.Good (record { start = t .start; end = t .end; settings = t .settings; region = spanIs (t .region) }))

@@ -1,5 +1,6 @@
 // A cue's timing line.
 use format::settings::Settings;
+use format::settings::Span;
 use values::bytes::ByteKind;
 use values::times::Stamp;
 ghost use mathlib.Core.Path.{_≡_};
@@ -53,6 +54,8 @@ pub struct Timing {
     pub start: u64,
     pub end: u64,
     pub settings: Settings,
+    // The name of the region that was asked for.
+    pub region: Span,
 }
 
 pub enum TimingLine {
@@ -87,10 +90,12 @@ fn with_settings(s: &[u8], at: usize, over: bool, start: u64, end: u64) -> Timin
         return TimingLine::Over;
     }
     let settings = taken.settings;
+    let region = taken.region;
     TimingLine::Good(Timing {
         start,
         end,
         settings,
+        region,
     })
 }
 

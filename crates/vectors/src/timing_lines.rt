@@ -127,27 +127,18 @@ fn print_cue_row(row: CueRow) {
 
 // The row of a cue that has these settings, and no region, so that each choice is printed by its code.
 fn row_of(settings: Settings) -> CueRow {
-    let vertical = settings.vertical;
-    let line = settings.line;
-    let position = settings.position;
-    let align = settings.align;
     let none = Span { from: 0, to: 0 };
     rows::cue_row(CueEntry {
         id: none,
         start: 0,
         end: 0,
         text: none,
-        vertical: vertical,
-        line: line,
-        position: position,
-        size: settings.size,
-        align: align,
+        settings,
         region: RegionIndex::None,
     })
 }
 
-fn print_settings(text: &[u8], settings: Settings) {
-    let region = settings.region;
+fn print_settings(text: &[u8], settings: Settings, region: Span) {
     print_cue_row(row_of(settings));
     output::print(b" region ");
     print_part(text, region);
@@ -177,10 +168,11 @@ fn print_region(text: &[u8], region: Region) {
 
 fn print_timing(text: &[u8], timing: Timing) {
     let settings = timing.settings;
+    let region = timing.region;
     output::digits(timing.start);
     print_labelled(b" ", timing.end);
     output::print(b" ");
-    print_settings(text, settings);
+    print_settings(text, settings, region);
 }
 
 fn print_timing_line(text: &[u8]) {
@@ -198,7 +190,8 @@ fn print_cue_settings(text: &[u8]) {
         return;
     }
     let settings = taken.settings;
-    print_settings(text, settings);
+    let region = taken.region;
+    print_settings(text, settings, region);
 }
 
 fn print_region_settings(text: &[u8]) {

@@ -191,7 +191,7 @@ fn position_fits(place: PositionPlace) -> bool
 
 // A cue's test 5.
 fn numbers_fit(row: CueRow) -> bool
-    ensures { λ r. ⌜ r ≡ cueTest5 (cueEntry row .line) (cueEntry row .position) (cueEntry row .size) ⌝ }
+    ensures { λ r. ⌜ r ≡ cueTest5 (cueEntry row .settings) ⌝ }
 {
     if !line_fits(rows::cues::line(row)) {
         return false;
@@ -254,7 +254,7 @@ fn cue_parts_test(text: &[u8], id: Span, words: Span) -> usize
 
 // A cue's tests 4 and 5: the first that fails, or 0.
 fn cue_numbers_test(row: CueRow) -> usize
-    ensures { λ r. ⌜ r ≡ testNumber (firstFailing 4 (cueTest4 (cueEntry row .start) (cueEntry row .end) ∷ cueTest5 (cueEntry row .line) (cueEntry row .position) (cueEntry row .size) ∷ [])) ⌝ }
+    ensures { λ r. ⌜ r ≡ testNumber (firstFailing 4 (cueTest4 (cueEntry row .start) (cueEntry row .end) ∷ cueTest5 (cueEntry row .settings) ∷ [])) ⌝ }
 {
     if !times_fit(rows::cues::start(row), rows::cues::end(row)) {
         return 4;

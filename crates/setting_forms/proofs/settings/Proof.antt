@@ -1,5 +1,5 @@
 -- `setting_forms::settings` meets its contract.
-use Rattle.format.specs.Written.{writtenVertical, writtenLine, writtenPosition, writtenSize, writtenAlign}
+use Rattle.format.specs.Written.{writtenFive, writtenVertical, writtenLine, writtenPosition, writtenSize, writtenAlign}
 use Rattle.setting_forms.specs.Settings.{settingsForm}
 use Rattle.output.proofs.PutLaws.{_then_}
 use Rattle.setting_forms.proofs.SettingLaws.{spaces-append, spaced}
@@ -55,7 +55,7 @@ same-length : tie.Need-same-length
 same-length c = search needs
 
 returns : tie.Need-returns
-unfolding settingsForm
+unfolding settingsForm writtenFive
 returns c =
     let named = c .before .before in
     let aligned = named .before .before .before .before in

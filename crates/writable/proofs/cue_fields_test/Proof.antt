@@ -29,7 +29,7 @@ module _ (c : tie.After-cue-parts-test) where
   abbrev three : List Bool
   three =
       let e = cueEntry (c .before .before .before .before .before .before .args .row) in
-      cueTest4 (e .start) (e .end) ∷ cueTest5 (e .line) (e .position) (e .size) ∷ []
+      cueTest4 (e .start) (e .end) ∷ cueTest5 (e .settings) ∷ []
 
   parts-are : c .cue-parts-test .result ≡ testNumber (firstFailing 2 two)
   parts-are =

@@ -14,10 +14,10 @@ use Rattle.writable.proofs.at_most_100.Reads as at-most-100-reads
 use Rattle.writable.proofs.line_fits.Reads as line-fits-reads
 use Rattle.writable.proofs.position_fits.Reads as position-fits-reads
 
-line-is : (c : tie.After-line-fits) → c .line-fits .result ≡ lineFits (cueEntry (c .before .before .args .row) .line)
+line-is : (c : tie.After-line-fits) → c .line-fits .result ≡ lineFits (cueEntry (c .before .before .args .row) .settings .line)
 line-is c = c .line-fits .ensures ∙ ap lineFits (c .before .line .ensures)
 
-position-is : (c : tie.After-position-fits) → c .position-fits .result ≡ positionFits (cueEntry (c .before .before .before .before .before .args .row) .position)
+position-is : (c : tie.After-position-fits) → c .position-fits .result ≡ positionFits (cueEntry (c .before .before .before .before .before .args .row) .settings .position)
 position-is c = c .position-fits .ensures ∙ ap positionFits (c .before .position .ensures)
 
 line-requires : tie.Need-line-requires

@@ -1,4 +1,6 @@
 -- `cue_settings::steps::line_change` meets its contract.
+use Rattle.format.specs.CueSettings.{lineChange}
+use Rattle.cue_settings.proofs.SettingLaws.{aligned-told}
 use mathlib.Core.Path.{sym, _∙_}
 use Rattle.format.specs.Bytes.{comma}
 use Rattle.values.proofs.CutLaws.{upto}
@@ -22,7 +24,8 @@ enum-told : tie.Need-enum-told
 enum-told c = search needs
 
 returns : tie.Need-returns
-returns c = rw (sym (c .before .before .line-align .ensures) ∙ c .enum-told .given .1)
+unfolding lineChange
+returns c = rw (aligned-told, sym (c .before .before .line-align .ensures) ∙ c .enum-told .given .1)
 
 ends-with-percent-requires : tie.Need-ends-with-percent-requires
 ends-with-percent-requires c κs = search needs
@@ -31,12 +34,14 @@ line-percentage-requires : tie.Need-line-percentage-requires
 line-percentage-requires c κs = search needs
 
 returns-2 : tie.Need-returns-2
+unfolding lineChange
 returns-2 c =
     let test = c .before .before in
     let aligned = test .before .before in
     let align = aligned .before .before in
     let past = align .before .before in
     rw (
+      aligned-told,
       sym (align .line-align .ensures) ∙ aligned .aligned .given .1,
       ← (upto comma (past .before .before .args .value .now) (past .past .result) (past .past .ensures) .0),
       sym (test .ends-with-percent .ensures) ∙ c .before .if1 .taken,
@@ -47,12 +52,14 @@ line-number-requires : tie.Need-line-number-requires
 line-number-requires c κs = search needs
 
 returns-3 : tie.Need-returns-3
+unfolding lineChange
 returns-3 c =
     let test = c .before .before in
     let aligned = test .before .before in
     let align = aligned .before .before in
     let past = align .before .before in
     rw (
+      aligned-told,
       sym (align .line-align .ensures) ∙ aligned .aligned .given .1,
       ← (upto comma (past .before .before .args .value .now) (past .past .result) (past .past .ensures) .0),
       sym (test .ends-with-percent .ensures) ∙ c .before .if1 .left,

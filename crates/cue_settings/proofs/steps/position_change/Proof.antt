@@ -1,4 +1,6 @@
 -- `cue_settings::steps::position_change` meets its contract.
+use Rattle.format.specs.CueSettings.{positionChange}
+use Rattle.cue_settings.proofs.SettingLaws.{position-told}
 use mathlib.Core.Path.{_≡_, sym, ap, _∙_}
 use Rattle.format.specs.Bytes.{comma}
 use Rattle.format.specs.Texts.{beforeFirst}
@@ -34,7 +36,8 @@ enum-told : tie.Need-enum-told
 enum-told c = search needs
 
 returns : tie.Need-returns
-returns c = rw (percentage-is (c .before .before) ∙ c .enum-told .given .1)
+unfolding positionChange
+returns c = rw (position-told, percentage-is (c .before .before) ∙ c .enum-told .given .1)
 
 position-align-requires : tie.Need-position-align-requires
 position-align-requires c κs = search needs
@@ -46,16 +49,18 @@ enum-known-align : tie.Need-enum-known-align
 enum-known-align c = search needs
 
 returns-2 : tie.Need-returns-2
+unfolding positionChange
 returns-2 c =
     let aligned = c .before .before in
     let read = aligned .before .before in
-    rw (percentage-is (read .before .before) ∙ read .read .given .1, sym (aligned .position-align .ensures) ∙ c .enum-told2 .given .1)
+    rw (position-told, percentage-is (read .before .before) ∙ read .read .given .1, sym (aligned .position-align .ensures) ∙ c .enum-told2 .given .1)
 
 returns-3 : tie.Need-returns-3
+unfolding positionChange
 returns-3 c =
     let aligned = c .before .before .before in
     let read = aligned .before .before in
-    rw (percentage-is (read .before .before) ∙ read .read .given .1, sym (aligned .position-align .ensures) ∙ c .before .align .given .1)
+    rw (position-told, percentage-is (read .before .before) ∙ read .read .given .1, sym (aligned .position-align .ensures) ∙ c .before .align .given .1)
 
 pub position-change-spec : {M : Type 1} → statement M
 position-change-spec =

@@ -6,8 +6,9 @@ use native.Mathlib.Omega.{arith}
 use lib.ListN.{length, drop}
 use lib.Seq.{length-take-le}
 use borrow.Author.Needs.{needs}
-use Rattle.format.specs.Tokens.{tokens}
-use Rattle.format.specs.CueSettings.{taken, openingSettings, cueSettings}
+use Rattle.format.specs.Texts.{emptyPart, isEmpty}
+use Rattle.format.specs.Tokens.{tokens, unflagged}
+use Rattle.format.specs.CueSettings.{openingSettings, cueSettings, spanIs}
 use Rattle.values.specs.Tokens.{TokenHere}
 use Rattle.cue_settings.specs.Steps.{foldIs, takenIs}
 use Rattle.cue_settings.proofs.SettingLaws.{fold-is}
@@ -25,11 +26,11 @@ opening-requires : tie.Need-opening-requires Inv-loop μ-loop
 opening-requires c κs = search needs
 
 loop-holds : tie.Need-loop-holds Inv-loop μ-loop
-unfolding cueSettings
+unfolding cueSettings spanIs isEmpty
 loop-holds c =
     let args = c .before .before .args in
     let whole = tokens (args .from) (drop (args .from) (args .s .now)) in
-    (omega arith, rw (c .opening .ensures) (fold-is (taken openingSettings) whole))
+    (omega arith, rw (c .opening .ensures) (fold-is (unflagged (record { settings = openingSettings; region = emptyPart })) whole))
 
 next-token-requires : tie.Need-next-token-requires Inv-loop μ-loop
 next-token-requires c κs = omega arith

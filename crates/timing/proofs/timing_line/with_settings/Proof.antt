@@ -17,9 +17,9 @@ returns-2 c =
 
 returns-3 : tie.Need-returns-3
 returns-3 c =
-    let test = c .before in
+    let test = c .before .before in
     let read = test .before .before .read-settings .ensures in
-    rw (test .before .if1 .left, sym (ap (λ t. t .over) read) ∙ test .if2 .left, ap (λ t. t .settings) read)
+    rw (test .before .if1 .left, sym (ap (λ t. t .over) read) ∙ test .if2 .left, ap (λ t. t .settings) read, ap (λ t. t .region) read)
 
 pub with-settings-spec : {M : Type 1} → statement M
 with-settings-spec = tie.close (tie.spec read-settings-requires returns returns-2 returns-3)
