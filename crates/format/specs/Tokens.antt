@@ -1,6 +1,6 @@
 -- A text split on ASCII whitespace, and a token split at its first colon.
 use Prim.Native.Nat.{ℕ, suc, _+_}
-use mathlib.Core.Bool.{Bool, false, cond, not}
+use mathlib.Core.Bool.{Bool, false, cond, not, _||_}
 use mathlib.Core.List.{List, [], _∷_}
 use lib.ListN.{length}
 use Rattle.format.specs.Bytes.{white, colon}
@@ -32,3 +32,16 @@ nameOf t = beforeFirst colon (t .bytes)
 
 unfoldable pub valueOf : Part → Part
 valueOf t = record { place = t .place + suc (length (nameOf t)); bytes = afterFirst colon (t .bytes) }
+
+-- a value, and whether a number that the W3C steps would have stored was above its limit. Such a number is not kept: the file is refused.
+pub record Flagged (A : Type 0) : Type 0 where
+  pub value : A
+  pub over : Bool
+
+abbrev pub unflagged : {A : Type 0} → A → Flagged A
+unflagged a = record { value = a; over = false }
+
+-- one token after the other, each turning the value so far into the next one
+unfoldable pub folded : {A : Type 0} → (Part → A → Flagged A) → Flagged A → List Part → Flagged A
+folded f v [] = v
+folded f v (t ∷ ts) = folded f (record { value = f t (v .value) .value; over = v .over || f t (v .value) .over }) ts

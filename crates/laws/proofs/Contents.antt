@@ -14,8 +14,8 @@ use Rattle.format.specs.Tokens.{inToken, onToken, beforeTokens, tokens, nameOf,
 use Rattle.format.specs.CueSettings.{CueSettings, Taken, taken, openingSettings, setRegion, direction, setVertical, setLine, lineAlign}
 use Rattle.format.specs.CueSettings.{linePercentage, lineCounted, lineSetting, setPosition, positionAlign, positionGiven, positionSetting}
 use Rattle.format.specs.CueSettings.{setSize, sizeOf, setAlign, alignment, named, cueSetting, settingsFrom, cueSettings, isHorizontal}
-use Rattle.format.specs.RegionSettings.{RegionValues, TakenRegion, takenRegion, openingRegion, setId, setWidth, setLines, point, setAnchor}
-use Rattle.format.specs.RegionSettings.{setViewport, setScroll, namedRegion, regionSetting, regionFrom, regionSettings}
+use Rattle.format.specs.Tokens.{Flagged, unflagged, folded}
+use Rattle.format.specs.RegionSettings.{RegionValues, openingValues, regionChange, regionAfter, overRegion, regionSetting, regionSettings}
 use Rattle.format.specs.Times.{Result, failed, got, milliseconds, overHours}
 use Rattle.format.specs.TimingLines.{Times, timings, withSettings, timingOf, timingLine}
 use Rattle.format.specs.Lines.{join}
@@ -28,6 +28,7 @@ use Rattle.format.specs.declared.settings.Direction.{Direction}
 use Rattle.format.specs.declared.settings.LineAlign.{LineAlign}
 use Rattle.format.specs.declared.settings.Align.{Align}
 use Rattle.format.specs.declared.settings.PositionAlign.{PositionAlign}
+use Rattle.laws.proofs.Regions.{id-after}
 
 -- values with every place and every number 0
 abbrev bare : Part → Part
@@ -46,10 +47,10 @@ bareTaken : Taken → Taken
 bareTaken t = record { settings = bareSettings (t .settings); over = t .over }
 
 abbrev bareValues : RegionValues → RegionValues
-bareValues r = setId (bare (r .id)) r
+bareValues r = record { id = bare (r .id); settings = r .settings }
 
-bareRegion : TakenRegion → TakenRegion
-bareRegion t = record { region = bareValues (t .region); over = t .over }
+bareRegion : Flagged RegionValues → Flagged RegionValues
+bareRegion t = record { value = bareValues (t .value); over = t .over }
 
 -- two choices by the same test are alike where their parts are
 alike : {A B : Type 0} (f : A → B) (t : Bool) {a b c d : A} → f a ≡ f c → f b ≡ f d → f (cond t a b) ≡ f (cond t c d)
@@ -170,73 +171,33 @@ cue-settings p q x =
     cue-by opening (tokens p x) ∙ ap (cueBy (bareTaken opening)) (token-bytes p q x) ∙ sym (cue-by opening (tokens q x))
 
 -- the same for regions
-alike-values : (r q : RegionValues) → bareValues r ≡ bareValues q → bareRegion (takenRegion r) ≡ bareRegion (takenRegion q)
-unfolding bareRegion
-alike-values r q e = ap takenRegion e
+region-setting : (r : RegionValues) (t : Part) → bareRegion (regionSetting t r) ≡ bareRegion (regionSetting (bare t) (bareValues r))
+unfolding bareRegion regionSetting regionChange nameOf valueOf
+region-setting r t =
+    let c = regionChange t in
+    ap (λ id. record { value = record { id = id; settings = regionAfter c (r .settings) }; over = overRegion c })
+    (id-after (λ x y. bare x ≡ bare y) c (valueOf t) (r .id) (valueOf (bare t)) (bare (r .id)) refl refl)
 
-module _ (r : RegionValues) where
-  unset-region : bareRegion (takenRegion r) ≡ bareRegion (takenRegion (bareValues r))
-  unfolding bareRegion setId
-  unset-region = refl
-
-  -- a setting whose value may be no value
-  set-option :
-      {A : Type 0} (set : Option A → RegionValues → RegionValues) (o : Option A)
-      → bareValues (set none r) ≡ bareValues (set none (bareValues r))
-      → ((a : A) → bareValues (set (some a) r) ≡ bareValues (set (some a) (bareValues r)))
-      → bareRegion (takenRegion (set o r)) ≡ bareRegion (takenRegion (set o (bareValues r)))
-  set-option set none n s = alike-values (set none r) (set none (bareValues r)) n
-  set-option set (some a) n s = alike-values (set (some a) r) (set (some a) (bareValues r)) (s a)
-
-  set-lines : (n : Option ℕ) → bareRegion (setLines n r) ≡ bareRegion (setLines n (bareValues r))
-  unfolding bareRegion setLines setId
-  set-lines none = refl
-  set-lines (some n) = alike bareRegion (ltb maxLine n) refl refl
-
-  named-region :
-      (name : List ℕ) (p q : ℕ) (x : List ℕ)
-      → bareRegion (namedRegion name (record { place = p; bytes = x }) r)
-      ≡ bareRegion (namedRegion name (record { place = q; bytes = x }) (bareValues r))
-  unfolding namedRegion setId setWidth setAnchor setViewport setScroll
-  named-region name p q x =
-      let b = bareValues r in
-      alike bareRegion (same name (ascii "id"))
-      (alike-values (setId (record { place = p; bytes = x }) r) (setId (record { place = q; bytes = x }) b) refl)
-      (alike bareRegion (same name (ascii "width")) (set-option setWidth (percentage x) refl (λ n. refl))
-      (alike bareRegion (same name (ascii "lines")) (set-lines (lineCount x))
-      (alike bareRegion (same name (ascii "regionanchor")) (set-option setAnchor (point x) refl (λ a. refl))
-      (alike bareRegion (same name (ascii "viewportanchor")) (set-option setViewport (point x) refl (λ a. refl))
-      (alike bareRegion (same name (ascii "scroll") && same x (ascii "up"))
-      (alike-values (setScroll r) (setScroll b) refl)
-      unset-region)))))
-
-  region-setting : (t : Part) → bareRegion (regionSetting t r) ≡ bareRegion (regionSetting (bare t) (bareValues r))
-  unfolding regionSetting nameOf valueOf
-  region-setting t =
-      let x = valueOf t .bytes in
-      alike bareRegion (isEmpty (nameOf t) || isEmpty x) unset-region
-      (named-region (nameOf t) (valueOf t .place) (valueOf (bare t) .place) x)
-
-regionBy : TakenRegion → List (List ℕ) → TakenRegion
+regionBy : Flagged RegionValues → List (List ℕ) → Flagged RegionValues
 regionBy s [] = s
 regionBy s (x ∷ xs) =
-    let r = bareRegion (regionSetting (record { place = 0; bytes = x }) (s .region)) in
-    regionBy (record { region = r .region; over = s .over || r .over }) xs
+    let r = bareRegion (regionSetting (record { place = 0; bytes = x }) (s .value)) in
+    regionBy (record { value = r .value; over = s .over || r .over }) xs
 
-region-by : (s : TakenRegion) (ts : List Part) → bareRegion (regionFrom s ts) ≡ regionBy (bareRegion s) (partBytes ts)
-unfolding bareRegion regionBy regionFrom
+region-by : (s : Flagged RegionValues) (ts : List Part) → bareRegion (folded regionSetting s ts) ≡ regionBy (bareRegion s) (partBytes ts)
+unfolding bareRegion regionBy folded
 region-by s [] = refl
 region-by s (t ∷ ts) =
-    let r = regionSetting t (s .region) in
-    region-by (record { region = r .region; over = s .over || r .over }) ts
-    ∙ ap (λ r. regionBy (record { region = r .region; over = s .over || r .over }) (partBytes ts)) (region-setting (s .region) t)
+    let r = regionSetting t (s .value) in
+    region-by (record { value = r .value; over = s .over || r .over }) ts
+    ∙ ap (λ r. regionBy (record { value = r .value; over = s .over || r .over }) (partBytes ts)) (region-setting (s .value) t)
 
 region-settings :
     (p q : ℕ) (x : List ℕ)
     → bareRegion (regionSettings (record { place = p; bytes = x })) ≡ bareRegion (regionSettings (record { place = q; bytes = x }))
 unfolding regionSettings
 region-settings p q x =
-    let opening = takenRegion openingRegion in
+    let opening = unflagged openingValues in
     region-by opening (tokens p x) ∙ ap (regionBy (bareRegion opening)) (token-bytes p q x) ∙ sym (region-by opening (tokens q x))
 
 -- what a block gives, with every place 0
@@ -340,7 +301,7 @@ listed-bare [] = refl
 listed-bare (i ∷ items) = ap (into (bareItem i)) (listed-bare items) ∙ into-bare i (listed items)
 
 ids-bare : (rs : List RegionValues) → ids (map bareValues rs) ≡ ids rs
-unfolding ids setId
+unfolding ids
 ids-bare [] = refl
 ids-bare (r ∷ rs) = ap (λ i. r .id .bytes ∷ i) (ids-bare rs)
 
@@ -353,7 +314,7 @@ map-alike f g h e [] = refl
 map-alike f g h e (x ∷ xs) = rw (e x, map-alike f g h e xs)
 
 region-contents : (r : RegionValues) → regionContents (bareValues r) ≡ regionContents r
-unfolding regionContents setId
+unfolding regionContents
 region-contents r = refl
 
 contents-bare : (l : Lists) → contents (bareLists l) ≡ contents l

@@ -6,11 +6,13 @@ use native.Mathlib.Omega.{arith}
 use lib.ListN.{length, drop}
 use lib.Seq.{length-take-le}
 use borrow.Author.Needs.{needs}
-use Rattle.format.specs.Tokens.{tokens}
-use Rattle.format.specs.RegionSettings.{takenRegion, openingRegion, regionSettings}
+use Rattle.format.specs.Texts.{isEmpty}
+use Rattle.format.specs.CueSettings.{spanIs}
+use Rattle.format.specs.Tokens.{unflagged, tokens}
+use Rattle.format.specs.RegionSettings.{openingValues, regionSettings}
 use Rattle.values.specs.Tokens.{TokenHere, tokenFrom}
-use Rattle.regions.specs.Changes.{foldIs, takenIs}
-use Rattle.regions.proofs.ChangeLaws.{fold-is}
+use Rattle.regions.specs.Changes.{takenIs}
+use Rattle.regions.proofs.ChangeLaws.{foldIs, fold-is}
 use Rattle.regions.proofs.read_region.Statement.{statement}
 use Rattle.regions.proofs.read_region.Tie as tie
 
@@ -25,11 +27,11 @@ opening-requires : tie.Need-opening-requires Inv-loop μ-loop
 opening-requires c κs = search needs
 
 loop-holds : tie.Need-loop-holds Inv-loop μ-loop
-unfolding regionSettings
+unfolding regionSettings spanIs isEmpty
 loop-holds c =
     let args = c .before .before .args in
     let whole = tokens (args .from) (drop (args .from) (args .s .now)) in
-    (omega arith, rw (c .opening .ensures) (fold-is (takenRegion openingRegion) whole))
+    (omega arith, rw (c .opening .ensures) (fold-is (unflagged openingValues) whole))
 
 next-token-requires : tie.Need-next-token-requires Inv-loop μ-loop
 next-token-requires c κs = omega arith
