@@ -33,6 +33,7 @@ openingRegion =
       scroll = Scroll.None;
     }
 
+-- the same, with the identifier
 abbrev pub openingValues : RegionValues
 openingValues = record { id = emptyPart; settings = openingRegion }
 
@@ -52,7 +53,7 @@ regionAfter (RegionChange.Viewport p) r =
 regionAfter RegionChange.Scroll r =
     record { width = r .width; lines = r .lines; anchor = r .anchor; viewport = r .viewport; scroll = Scroll.Up }
 
--- what becomes of the identifier, x being the setting's value
+-- what becomes of the identifier, a part or whatever stands for it, x being the setting's value
 abbrev pub idAfter : {A : Type 0} → RegionChange → A → A → A
 idAfter RegionChange.Nothing x id = id
 idAfter RegionChange.Over x id = id
@@ -63,6 +64,7 @@ idAfter (RegionChange.Anchor p) x id = id
 idAfter (RegionChange.Viewport p) x id = id
 idAfter RegionChange.Scroll x id = id
 
+-- was the setting's number above its limit
 abbrev pub overRegion : RegionChange → Bool
 overRegion RegionChange.Nothing = false
 overRegion RegionChange.Over = true
