@@ -12,7 +12,8 @@ use borrow.Author.Tests.{eqb-true, eqb-false, eq-eqb, ne-eqb, ltb-true, ltb-fals
 use Rattle.format.specs.Bytes.{white}
 use Rattle.format.specs.Texts.{Part, startsWith, same, isEmpty, all, run}
 use Rattle.format.specs.CueSettings.{spanIs}
-use Rattle.format.specs.RegionSettings.{TakenRegion}
+use Rattle.format.specs.Tokens.{Flagged}
+use Rattle.format.specs.RegionSettings.{RegionValues}
 use Rattle.format.specs.TimingLines.{Timing}
 use Rattle.format.specs.Lists.{regionOf, isWord}
 use Rattle.laws.proofs.Tests.{by-test}
@@ -51,7 +52,7 @@ pub timed-is : (id text : Part) (o : Option Timing) → timedIs (spanIs id) (spa
 timed-is id text none = refl
 timed-is id text (some t) = by-test (t .over) (λ y. rw y) (λ n. rw n)
 
-pub region-is : (t : TakenRegion) → regionItem (takenIs t) ≡ itemIs (regionOf t)
+pub region-is : (t : Flagged RegionValues) → regionItem (takenIs t) ≡ itemIs (regionOf t)
 unfolding regionOf
 region-is t = refl
 

@@ -1,16 +1,15 @@
 -- Settings by the code's answers: a setting by its name, its numbers by what reading them told, and the fold over tokens.
 use Prim.Native.Nat.{ℕ}
-use mathlib.Core.Path.{_≡_, refl, ap, _∙_}
-use mathlib.Core.Bool.{Bool, true, false, cond, _||_}
+use mathlib.Core.Path.{_≡_, refl, sym, ap}
+use mathlib.Core.Bool.{false, true, cond, _||_}
 use mathlib.Core.List.{List, [], _∷_}
 use mathlib.Core.Option.{Option, none, some}
-use lib.Dec.{eqb}
 use Rattle.format.specs.Bytes.{ascii, percent}
-use Rattle.format.specs.Texts.{Part, emptyPart, isEmpty, same, endsWith}
+use Rattle.format.specs.Texts.{Part, isEmpty, same, endsWith}
 use Rattle.format.specs.Numbers.{percentage, LineNumber, lineNumber, overLine, isNegative, millionths}
 use Rattle.format.specs.Tokens.{valueOf, Flagged, folded}
-use Rattle.format.specs.CueSettings.{CueSettings, settingsAfter, nameAfter, isHorizontal, isOver, direction, linePercentage, lineCounted, lineAligned, lineChange}
-use Rattle.format.specs.CueSettings.{positionChange, positionAligned, sizeChange, alignment, named, cueChange, changed, cueSetting, spanIs, noSpan}
+use Rattle.format.specs.CueSettings.{CueSettings, settingsAfter, isOver, direction, linePercentage, lineCounted, lineAligned, lineChange}
+use Rattle.format.specs.CueSettings.{positionChange, positionAligned, sizeChange, alignment, named, cueChange, changed, cueSetting, spanIs}
 use Rattle.format.specs.declared.settings.Settings.{Settings}
 use Rattle.format.specs.declared.settings.Change.{Change}
 use Rattle.format.specs.declared.settings.Change.the-variants as Change
@@ -19,6 +18,7 @@ use Rattle.format.specs.declared.settings.PositionAlign.{PositionAlign}
 use Rattle.format.specs.declared.settings.Line.the-variants as Line
 use Rattle.format.specs.declared.settings.Position.the-variants as Position
 use Rattle.laws.proofs.Tests.{by-test}
+use Rattle.laws.proofs.Changes.{name-after, stepped, folds-as}
 use Rattle.values.specs.Numbers.{percentageIs, lineNumberIs}
 use Rattle.values.specs.declared.numbers.Percentage.{Percentage}
 use Rattle.values.specs.declared.numbers.Percentage.the-variants as Percentage
@@ -31,7 +31,7 @@ use Rattle.setting_words.specs.declared.LineAligned.{LineAligned}
 use Rattle.setting_words.specs.declared.LineAligned.the-variants as LineAligned
 use Rattle.setting_words.specs.declared.PositionAligned.{PositionAligned}
 use Rattle.setting_words.specs.declared.PositionAligned.the-variants as PositionAligned
-use Rattle.cue_settings.specs.Steps.{stepIs, foldIs, takenIs}
+use Rattle.cue_settings.specs.Steps.{stepIs, takenIs}
 
 -- a change by what the code was told
 abbrev pub percentageTold : Percentage → LineAlign → Change
@@ -102,27 +102,16 @@ name-told name x s =
     (λ n₄. by-test (same name (ascii "size")) (λ y. rw (n₁, n₂, n₃, n₄, y) refl)
     (λ n₅. by-test (same name (ascii "align")) (λ y. rw (n₁, n₂, n₃, n₄, n₅, y) refl) (λ n₆. rw (n₁, n₂, n₃, n₄, n₅, n₆) refl))))))
 
--- a region's name is kept, taken or cleared as a part and as its place alike
-span-cond : (t : Bool) (p q : Part) → spanIs (cond t p q) ≡ cond t (spanIs p) (spanIs q)
-span-cond true p q = refl
-span-cond false p q = refl
-
-name-span : (h : Change) (x name : Part) → spanIs (nameAfter emptyPart h x name) ≡ nameAfter noSpan h (spanIs x) (spanIs name)
-unfolding spanIs isEmpty
-name-span Change.Nothing x name = refl
-name-span Change.Over x name = refl
-name-span Change.Region x name = refl
-name-span (Change.Vertical d) x name = span-cond (isHorizontal d) name emptyPart
-name-span (Change.Line l) x name = refl
-name-span (Change.Position p) x name = refl
-name-span (Change.Size n) x name = span-cond (eqb n 100_000_000) name emptyPart
-name-span (Change.Align a) x name = refl
+-- one token: of each part that may become the name the code has the span
+step-is :
+    (t : Part) (v : Flagged CueSettings)
+    → stepIs t (takenIs v) ≡ takenIs (record { value = cueSetting t (v .value) .value; over = v .over || cueSetting t (v .value) .over })
+unfolding cueSetting changed spanIs isEmpty
+step-is t v =
+    let h = cueChange t (v .value .settings) in
+    ap (λ n. record { settings = settingsAfter h (v .value .settings); region = n; over = v .over || isOver h })
+    (sym (name-after (λ p n. spanIs p ≡ n) refl h {x = valueOf t} {n = v .value .region} refl refl))
 
 -- token after token
-pub fold-is : (v : Flagged CueSettings) (ts : List Part) → foldIs (takenIs v) ts ≡ takenIs (folded cueSetting v ts)
-unfolding foldIs folded cueSetting changed
-fold-is v [] = refl
-fold-is v (t ∷ ts) =
-    let h = cueChange t (v .value .settings) in
-    let r = cueSetting t (v .value) in
-    rw (← (name-span h (valueOf t) (v .value .region))) (fold-is (record { value = r .value; over = v .over || r .over }) ts)
+pub fold-is : (v : Flagged CueSettings) (ts : List Part) → stepped stepIs (takenIs v) ts ≡ takenIs (folded cueSetting v ts)
+fold-is v ts = folds-as cueSetting takenIs stepIs step-is v ts

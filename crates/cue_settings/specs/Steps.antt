@@ -1,7 +1,6 @@
--- A cue's settings as the code holds them, with the place of the region's name. `proofs/SettingLaws.antt` proves that a step and a fold of
--- these are those of `format`.
+-- A cue's settings as the code holds them, with the place of the region's name. `proofs/SettingLaws.antt` proves that the
+-- steps of the code are those of `format`.
 use mathlib.Core.Bool.{_||_}
-use mathlib.Core.List.{List, [], _∷_}
 use Rattle.format.specs.Texts.{Part}
 use Rattle.format.specs.Tokens.{valueOf, Flagged}
 use Rattle.format.specs.CueSettings.{CueSettings, settingsAfter, nameAfter, isOver, cueChange, spanIs, noSpan}
@@ -19,7 +18,3 @@ stepWith h x s =
 
 abbrev pub stepIs : Part → CueTaken → CueTaken
 stepIs t s = stepWith (cueChange t (s .settings)) (spanIs (valueOf t)) s
-
-unfoldable pub foldIs : CueTaken → List Part → CueTaken
-foldIs s [] = s
-foldIs s (t ∷ ts) = foldIs (stepIs t s) ts

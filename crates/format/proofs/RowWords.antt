@@ -50,11 +50,8 @@ abbrev regionExample : Region
 regionExample =
     record {
       id = record { from = 10; to = 20 };
-      width = 30;
-      lines = 40;
-      anchor = record { x = 50; y = 60 };
-      viewport = record { x = 70; y = 80 };
-      scroll = Scroll.Up;
+      settings =
+          record { width = 30; lines = 40; anchor = record { x = 50; y = 60 }; viewport = record { x = 70; y = 80 }; scroll = Scroll.Up };
     }
 
 abbrev regionRowExample : List ℕ

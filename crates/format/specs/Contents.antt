@@ -8,8 +8,7 @@ use Rattle.format.specs.Lists.{Cue, Lists, lists}
 use Rattle.format.specs.Rows.{regionFor, cueEntry, regionEntry, styleEntry, cueRows, regionRows, styleRows}
 use Rattle.format.specs.declared.settings.Span.{Span}
 use Rattle.format.specs.declared.settings.Settings.{Settings}
-use Rattle.format.specs.declared.regions.Point.{Point}
-use Rattle.format.specs.declared.regions.Scroll.{Scroll}
+use Rattle.format.specs.declared.regions.RegionSettings.{RegionSettings}
 use Rattle.format.specs.declared.regions.Region.{Region}
 use Rattle.format.specs.declared.rows.CueEntry.{CueEntry}
 use Rattle.format.specs.declared.rows.RegionIndex.{RegionIndex}
@@ -27,11 +26,7 @@ pub record CueContents : Type 0 where
 -- "a region's are its identifier, width, lines, anchors and scroll"
 pub record RegionContents : Type 0 where
   pub id : List ℕ
-  pub width : ℕ
-  pub lines : ℕ
-  pub anchor : Point
-  pub viewport : Point
-  pub scroll : Scroll
+  pub settings : RegionSettings
 
 pub record Contents : Type 0 where
   pub cues : List CueContents
@@ -51,8 +46,7 @@ cueContents rs c =
     }
 
 unfoldable pub regionContents : RegionValues → RegionContents
-regionContents r =
-    record { id = r .id .bytes; width = r .width; lines = r .lines; anchor = r .anchor; viewport = r .viewport; scroll = r .scroll }
+regionContents r = record { id = r .id .bytes; settings = r .settings }
 
 unfoldable pub contents : Lists → Contents
 contents l =
@@ -79,15 +73,7 @@ cueOfEntry s e =
     }
 
 unfoldable pub regionOfEntry : List ℕ → Region → RegionContents
-regionOfEntry s r =
-    record {
-      id = bytesAt s (r .id .from) (r .id .to);
-      width = r .width;
-      lines = r .lines;
-      anchor = r .anchor;
-      viewport = r .viewport;
-      scroll = r .scroll;
-    }
+regionOfEntry s r = record { id = bytesAt s (r .id .from) (r .id .to); settings = r .settings }
 
 unfoldable pub styleOfEntry : List ℕ → Span → List ℕ
 styleOfEntry s t = bytesAt s (t .from) (t .to)

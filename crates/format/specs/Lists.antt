@@ -8,7 +8,8 @@ use lib.ListN.{length, drop}
 use Rattle.format.specs.Bytes.{ascii, white}
 use Rattle.format.specs.Texts.{startsWith, all, Part, emptyPart}
 use Rattle.format.specs.declared.settings.Settings.{Settings}
-use Rattle.format.specs.RegionSettings.{RegionValues, TakenRegion, regionSettings}
+use Rattle.format.specs.Tokens.{Flagged}
+use Rattle.format.specs.RegionSettings.{RegionValues, regionSettings}
 use Rattle.format.specs.TimingLines.{Timing, timingLine}
 use Rattle.format.specs.Blocks.{Line, linePart, holdsArrow, joined, blocks}
 
@@ -35,8 +36,8 @@ cueOf id ls (some t) =
     cue (record { id = id; start = t .start; end = t .end; settings = t .settings; region = t .region; text = joined ls }) (t .over)
 
 -- 11.6.1: the region of a REGION block
-unfoldable pub regionOf : TakenRegion → Item
-regionOf t = region (t .region) (t .over)
+unfoldable pub regionOf : Flagged RegionValues → Item
+regionOf t = region (t .value) (t .over)
 
 -- a word, "only ASCII whitespace after it"
 unfoldable pub isWord : List ℕ → List ℕ → Bool

@@ -8,29 +8,24 @@ use Rattle.format.specs.Bytes.{ascii, comma}
 use Rattle.format.specs.Limits.{maxLine}
 use Rattle.format.specs.Texts.{Part, emptyPart, isEmpty, same, beforeFirst, afterFirst, has}
 use Rattle.format.specs.Numbers.{percentage, lineCount}
-use Rattle.format.specs.Tokens.{tokens, nameOf, valueOf}
+use Rattle.format.specs.Tokens.{Flagged, unflagged, folded, tokens, nameOf, valueOf}
 use Rattle.format.specs.CueSettings.{spanIs}
 use Rattle.format.specs.declared.regions.Point.{Point}
 use Rattle.format.specs.declared.regions.Scroll.{Scroll}
 use Rattle.format.specs.declared.regions.Scroll.the-variants as Scroll
+use Rattle.format.specs.declared.regions.RegionSettings.{RegionSettings}
+use Rattle.format.specs.declared.regions.RegionChange.{RegionChange}
+use Rattle.format.specs.declared.regions.RegionChange.the-variants as RegionChange
 use Rattle.format.specs.declared.regions.Region.{Region}
 
 pub record RegionValues : Type 0 where
   pub id : Part
-  pub width : ℕ
-  pub lines : ℕ
-  pub anchor : Point
-  pub viewport : Point
-  pub scroll : Scroll
-
-abbrev pub up : Scroll
-up = Scroll.Up
+  pub settings : RegionSettings
 
 -- "Regions open with empty identifier, width 100, lines 3, both anchors 0 and 100, no scroll."
-abbrev pub openingRegion : RegionValues
+abbrev pub openingRegion : RegionSettings
 openingRegion =
     record {
-      id = emptyPart;
       width = 100_000_000;
       lines = 3;
       anchor = record { x = 0; y = 100_000_000 };
@@ -38,30 +33,57 @@ openingRegion =
       scroll = Scroll.None;
     }
 
--- values, and whether a number that the W3C steps would have stored was above its limit. Such a number is not kept: the file is refused.
-pub record TakenRegion : Type 0 where
-  pub region : RegionValues
-  pub over : Bool
+-- the same, with the identifier
+abbrev pub openingValues : RegionValues
+openingValues = record { id = emptyPart; settings = openingRegion }
 
-abbrev pub takenRegion : RegionValues → TakenRegion
-takenRegion r = record { region = r; over = false }
+-- what a change makes of the settings
+abbrev pub regionAfter : RegionChange → RegionSettings → RegionSettings
+regionAfter RegionChange.Nothing r = r
+regionAfter RegionChange.Over r = r
+regionAfter RegionChange.Id r = r
+regionAfter (RegionChange.Width n) r =
+    record { width = n; lines = r .lines; anchor = r .anchor; viewport = r .viewport; scroll = r .scroll }
+regionAfter (RegionChange.Lines n) r =
+    record { width = r .width; lines = n; anchor = r .anchor; viewport = r .viewport; scroll = r .scroll }
+regionAfter (RegionChange.Anchor p) r =
+    record { width = r .width; lines = r .lines; anchor = p; viewport = r .viewport; scroll = r .scroll }
+regionAfter (RegionChange.Viewport p) r =
+    record { width = r .width; lines = r .lines; anchor = r .anchor; viewport = p; scroll = r .scroll }
+regionAfter RegionChange.Scroll r =
+    record { width = r .width; lines = r .lines; anchor = r .anchor; viewport = r .viewport; scroll = Scroll.Up }
 
--- `id:x`
-unfoldable pub setId : Part → RegionValues → RegionValues
-setId x r = record { id = x; width = r .width; lines = r .lines; anchor = r .anchor; viewport = r .viewport; scroll = r .scroll }
+-- what becomes of the identifier, a part or whatever stands for it, x being the setting's value
+abbrev pub idAfter : {A : Type 0} → RegionChange → A → A → A
+idAfter RegionChange.Nothing x id = id
+idAfter RegionChange.Over x id = id
+idAfter RegionChange.Id x id = x
+idAfter (RegionChange.Width n) x id = id
+idAfter (RegionChange.Lines n) x id = id
+idAfter (RegionChange.Anchor p) x id = id
+idAfter (RegionChange.Viewport p) x id = id
+idAfter RegionChange.Scroll x id = id
+
+-- was the setting's number above its limit
+abbrev pub overRegion : RegionChange → Bool
+overRegion RegionChange.Nothing = false
+overRegion RegionChange.Over = true
+overRegion RegionChange.Id = false
+overRegion (RegionChange.Width n) = false
+overRegion (RegionChange.Lines n) = false
+overRegion (RegionChange.Anchor p) = false
+overRegion (RegionChange.Viewport p) = false
+overRegion RegionChange.Scroll = false
 
 -- `width:x`
-unfoldable pub setWidth : Option ℕ → RegionValues → RegionValues
-setWidth none r = r
-setWidth (some n) r =
-    record { id = r .id; width = n; lines = r .lines; anchor = r .anchor; viewport = r .viewport; scroll = r .scroll }
+unfoldable pub widthChange : Option ℕ → RegionChange
+widthChange none = RegionChange.Nothing
+widthChange (some n) = RegionChange.Width n
 
 -- `lines:x`
-unfoldable pub setLines : Option ℕ → RegionValues → TakenRegion
-setLines none r = takenRegion r
-setLines (some n) r =
-    cond (ltb maxLine n) (record { region = r; over = true })
-    (takenRegion (record { id = r .id; width = r .width; lines = n; anchor = r .anchor; viewport = r .viewport; scroll = r .scroll }))
+unfoldable pub linesChange : Option ℕ → RegionChange
+linesChange none = RegionChange.Nothing
+linesChange (some n) = cond (ltb maxLine n) RegionChange.Over (RegionChange.Lines n)
 
 -- two percentages, parted by the first comma
 unfoldable pub pointOf : Option ℕ → Option ℕ → Option Point
@@ -73,51 +95,45 @@ unfoldable pub point : List ℕ → Option Point
 point x = cond (has comma x) (pointOf (percentage (beforeFirst comma x)) (percentage (afterFirst comma x))) none
 
 -- `regionanchor:x`
-unfoldable pub setAnchor : Option Point → RegionValues → RegionValues
-setAnchor none r = r
-setAnchor (some p) r =
-    record { id = r .id; width = r .width; lines = r .lines; anchor = p; viewport = r .viewport; scroll = r .scroll }
+unfoldable pub anchorChange : Option Point → RegionChange
+anchorChange none = RegionChange.Nothing
+anchorChange (some p) = RegionChange.Anchor p
 
 -- `viewportanchor:x`
-unfoldable pub setViewport : Option Point → RegionValues → RegionValues
-setViewport none r = r
-setViewport (some p) r =
-    record { id = r .id; width = r .width; lines = r .lines; anchor = r .anchor; viewport = p; scroll = r .scroll }
+unfoldable pub viewportChange : Option Point → RegionChange
+viewportChange none = RegionChange.Nothing
+viewportChange (some p) = RegionChange.Viewport p
 
--- `scroll:up`
-unfoldable pub setScroll : RegionValues → RegionValues
-setScroll r =
-    record { id = r .id; width = r .width; lines = r .lines; anchor = r .anchor; viewport = r .viewport; scroll = Scroll.Up }
+-- what one setting changes, by its name and the bytes of its value
+unfoldable pub regionNamed : List ℕ → List ℕ → RegionChange
+regionNamed name x =
+    cond (same name (ascii "id")) RegionChange.Id
+    (cond (same name (ascii "width")) (widthChange (percentage x))
+    (cond (same name (ascii "lines")) (linesChange (lineCount x))
+    (cond (same name (ascii "regionanchor")) (anchorChange (point x))
+    (cond (same name (ascii "viewportanchor")) (viewportChange (point x))
+    (cond (same name (ascii "scroll") && same x (ascii "up")) RegionChange.Scroll RegionChange.Nothing)))))
 
--- one setting by its name, x being its value
-unfoldable pub namedRegion : List ℕ → Part → RegionValues → TakenRegion
-namedRegion name x r =
-    cond (same name (ascii "id")) (takenRegion (setId x r))
-    (cond (same name (ascii "width")) (takenRegion (setWidth (percentage (x .bytes)) r))
-    (cond (same name (ascii "lines")) (setLines (lineCount (x .bytes)) r)
-    (cond (same name (ascii "regionanchor")) (takenRegion (setAnchor (point (x .bytes)) r))
-    (cond (same name (ascii "viewportanchor")) (takenRegion (setViewport (point (x .bytes)) r))
-    (cond (same name (ascii "scroll") && same (x .bytes) (ascii "up")) (takenRegion (setScroll r)) (takenRegion r))))))
+-- what one token changes: nothing where its first colon is missing, first or last
+unfoldable pub regionChange : Part → RegionChange
+regionChange t =
+    cond (isEmpty (nameOf t) || isEmpty (valueOf t .bytes)) RegionChange.Nothing (regionNamed (nameOf t) (valueOf t .bytes))
 
--- one token: nothing where its first colon is missing, first or last
-unfoldable pub regionSetting : Part → RegionValues → TakenRegion
-regionSetting t r = cond (isEmpty (nameOf t) || isEmpty (valueOf t .bytes)) (takenRegion r) (namedRegion (nameOf t) (valueOf t) r)
-
--- one token after the other
-unfoldable pub regionFrom : TakenRegion → List Part → TakenRegion
-regionFrom s [] = s
-regionFrom s (t ∷ ts) =
-    regionFrom
-    (record { region = regionSetting t (s .region) .region; over = s .over || regionSetting t (s .region) .over })
-    ts
+-- one token
+unfoldable pub regionSetting : Part → RegionValues → Flagged RegionValues
+regionSetting t r =
+    let change = regionChange t in
+    record {
+      value = record { id = idAfter change (valueOf t) (r .id); settings = regionAfter change (r .settings) };
+      over = overRegion change;
+    }
 
 -- the region that a part of a text gives
-unfoldable pub regionSettings : Part → TakenRegion
-regionSettings p = regionFrom (takenRegion openingRegion) (tokens (p .place) (p .bytes))
+unfoldable pub regionSettings : Part → Flagged RegionValues
+regionSettings p = folded regionSetting (unflagged openingValues) (tokens (p .place) (p .bytes))
 
 abbrev pub regionIs : RegionValues → Region
-regionIs r =
-    record { id = spanIs (r .id); width = r .width; lines = r .lines; anchor = r .anchor; viewport = r .viewport; scroll = r .scroll }
+regionIs r = record { id = spanIs (r .id); settings = r .settings }
 
 unfoldable pub laterOr : Option ℕ → Option ℕ → Option ℕ
 laterOr none o = o

@@ -124,13 +124,13 @@ abbrev pub regionWords : Region → List ℕ
 regionWords r =
     r .id .from
     ∷ r .id .to
-    ∷ r .width
-    ∷ r .lines
-    ∷ r .anchor .x
-    ∷ r .anchor .y
-    ∷ r .viewport .x
-    ∷ r .viewport .y
-    ∷ scrollWord (r .scroll)
+    ∷ r .settings .width
+    ∷ r .settings .lines
+    ∷ r .settings .anchor .x
+    ∷ r .settings .anchor .y
+    ∷ r .settings .viewport .x
+    ∷ r .settings .viewport .y
+    ∷ scrollWord (r .settings .scroll)
     ∷ []
 
 -- the row of a style text
@@ -216,11 +216,14 @@ abbrev pub regionEntry : List ℕ → Region
 regionEntry w =
     record {
       id = record { from = word 0 w; to = word 1 w };
-      width = word 2 w;
-      lines = word 3 w;
-      anchor = record { x = word 4 w; y = word 5 w };
-      viewport = record { x = word 6 w; y = word 7 w };
-      scroll = scrollOf (word 8 w);
+      settings =
+          record {
+            width = word 2 w;
+            lines = word 3 w;
+            anchor = record { x = word 4 w; y = word 5 w };
+            viewport = record { x = word 6 w; y = word 7 w };
+            scroll = scrollOf (word 8 w);
+          };
     }
 
 -- what a style's row says

@@ -139,7 +139,11 @@ unfoldable pub regionTest4 : ℕ → Bool
 regionTest4 lines = leb lines maxLine
 
 unfoldable pub regionTests : RegionContents → List Bool
-regionTests r = regionTest2 (r .id) ∷ regionTest3 (r .width) (r .anchor) (r .viewport) ∷ regionTest4 (r .lines) ∷ []
+regionTests r =
+    regionTest2 (r .id)
+    ∷ regionTest3 (r .settings .width) (r .settings .anchor) (r .settings .viewport)
+    ∷ regionTest4 (r .settings .lines)
+    ∷ []
 
 unfoldable pub regionFails : List ℕ → List ℕ → Option ℕ
 regionFails s w = firstFailing 1 (regionTest1 s w ∷ regionTests (regionOfRow s w))

@@ -162,11 +162,11 @@ unfoldable pub regionLines : RegionContents → List (List ℕ)
 regionLines r =
     ascii "REGION"
     ∷ writtenId (r .id)
-    ++ setting (ascii "width") (writtenPercentage (r .width))
-    ++ setting (ascii "lines") (decimalIn 1 (r .lines))
-    ++ setting (ascii "regionanchor") (writtenPoint (r .anchor))
-    ++ setting (ascii "viewportanchor") (writtenPoint (r .viewport))
-    ++ writtenScroll (r .scroll)
+    ++ setting (ascii "width") (writtenPercentage (r .settings .width))
+    ++ setting (ascii "lines") (decimalIn 1 (r .settings .lines))
+    ++ setting (ascii "regionanchor") (writtenPoint (r .settings .anchor))
+    ++ setting (ascii "viewportanchor") (writtenPoint (r .settings .viewport))
+    ++ writtenScroll (r .settings .scroll)
 
 unfoldable pub styleLines : List ℕ → List (List ℕ)
 styleLines text = ascii "STYLE" ∷ split text

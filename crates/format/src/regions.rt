@@ -1,7 +1,8 @@
-// A region's values, with the opening ones, and what each of its settings changes.
+// A region's identifier and settings, with the opening ones, and what one setting changes.
 use super::settings::Span;
 ghost use mathlib.Core.Path.{_≡_};
-ghost use Rattle.format.specs.RegionSettings.{openingRegion, regionIs, up};
+ghost use Rattle.format.specs.declared.regions.RegionChange.the-variants as RegionChange;
+ghost use Rattle.format.specs.RegionSettings.{openingRegion, regionAfter};
 
 pub enum Scroll {
     None,
@@ -14,14 +15,31 @@ pub struct Point {
     pub y: u64,
 }
 
-pub struct Region {
-    pub id: Span,
+pub struct RegionSettings {
     // A percentage, in millionths.
     pub width: u64,
     pub lines: u64,
     pub anchor: Point,
     pub viewport: Point,
     pub scroll: Scroll,
+}
+
+pub struct Region {
+    pub id: Span,
+    pub settings: RegionSettings,
+}
+
+// What one setting changes: its value is the identifier, or it sets something.
+pub enum RegionChange {
+    Nothing,
+    // A number above its limit, which is not kept.
+    Over,
+    Id,
+    Width(u64),
+    Lines(u64),
+    Anchor(Point),
+    Viewport(Point),
+    Scroll,
 }
 
 impl Point {
@@ -32,49 +50,30 @@ impl Point {
     };
 }
 
-impl Region {
+impl RegionSettings {
     pub const OPENING_WIDTH: u64 = 100_000_000;
 
     pub const OPENING_LINES: u64 = 3;
 
-    pub fn opening() -> Region
-        ensures { λ r. ⌜ r ≡ regionIs openingRegion ⌝ }
+    pub fn opening() -> RegionSettings
+        ensures { λ r. ⌜ r ≡ openingRegion ⌝ }
     {
-        Region {
-            id: Span::NONE,
-            width: Region::OPENING_WIDTH,
-            lines: Region::OPENING_LINES,
+        RegionSettings {
+            width: RegionSettings::OPENING_WIDTH,
+            lines: RegionSettings::OPENING_LINES,
             anchor: Point::OPENING,
             viewport: Point::OPENING,
             scroll: Scroll::None,
         }
     }
 
-    pub fn with_id(self, id: Span) -> Region
-        ensures { λ r. ⌜ r ≡ record { id = id; width = self .width; lines = self .lines; anchor = self .anchor; viewport = self .viewport; scroll = self .scroll } ⌝ }
+    pub fn with_width(self, width: u64) -> RegionSettings
+        ensures { λ r. ⌜ r ≡ regionAfter (RegionChange.Width width) self ⌝ }
     {
         let anchor = self.anchor;
         let viewport = self.viewport;
         let scroll = self.scroll;
-        Region {
-            id,
-            width: self.width,
-            lines: self.lines,
-            anchor,
-            viewport,
-            scroll,
-        }
-    }
-
-    pub fn with_width(self, width: u64) -> Region
-        ensures { λ r. ⌜ r ≡ record { id = self .id; width = width; lines = self .lines; anchor = self .anchor; viewport = self .viewport; scroll = self .scroll } ⌝ }
-    {
-        let id = self.id;
-        let anchor = self.anchor;
-        let viewport = self.viewport;
-        let scroll = self.scroll;
-        Region {
-            id,
+        RegionSettings {
             width,
             lines: self.lines,
             anchor,
@@ -83,15 +82,13 @@ impl Region {
         }
     }
 
-    pub fn with_lines(self, lines: u64) -> Region
-        ensures { λ r. ⌜ r ≡ record { id = self .id; width = self .width; lines = lines; anchor = self .anchor; viewport = self .viewport; scroll = self .scroll } ⌝ }
+    pub fn with_lines(self, lines: u64) -> RegionSettings
+        ensures { λ r. ⌜ r ≡ regionAfter (RegionChange.Lines lines) self ⌝ }
     {
-        let id = self.id;
         let anchor = self.anchor;
         let viewport = self.viewport;
         let scroll = self.scroll;
-        Region {
-            id,
+        RegionSettings {
             width: self.width,
             lines,
             anchor,
@@ -100,14 +97,12 @@ impl Region {
         }
     }
 
-    pub fn with_anchor(self, anchor: Point) -> Region
-        ensures { λ r. ⌜ r ≡ record { id = self .id; width = self .width; lines = self .lines; anchor = anchor; viewport = self .viewport; scroll = self .scroll } ⌝ }
+    pub fn with_anchor(self, anchor: Point) -> RegionSettings
+        ensures { λ r. ⌜ r ≡ regionAfter (RegionChange.Anchor anchor) self ⌝ }
     {
-        let id = self.id;
         let viewport = self.viewport;
         let scroll = self.scroll;
-        Region {
-            id,
+        RegionSettings {
             width: self.width,
             lines: self.lines,
             anchor,
@@ -116,14 +111,12 @@ impl Region {
         }
     }
 
-    pub fn with_viewport(self, viewport: Point) -> Region
-        ensures { λ r. ⌜ r ≡ record { id = self .id; width = self .width; lines = self .lines; anchor = self .anchor; viewport = viewport; scroll = self .scroll } ⌝ }
+    pub fn with_viewport(self, viewport: Point) -> RegionSettings
+        ensures { λ r. ⌜ r ≡ regionAfter (RegionChange.Viewport viewport) self ⌝ }
     {
-        let id = self.id;
         let anchor = self.anchor;
         let scroll = self.scroll;
-        Region {
-            id,
+        RegionSettings {
             width: self.width,
             lines: self.lines,
             anchor,
@@ -132,14 +125,12 @@ impl Region {
         }
     }
 
-    pub fn with_scroll(self) -> Region
-        ensures { λ r. ⌜ r ≡ record { id = self .id; width = self .width; lines = self .lines; anchor = self .anchor; viewport = self .viewport; scroll = up } ⌝ }
+    pub fn with_scroll(self) -> RegionSettings
+        ensures { λ r. ⌜ r ≡ regionAfter RegionChange.Scroll self ⌝ }
     {
-        let id = self.id;
         let anchor = self.anchor;
         let viewport = self.viewport;
-        Region {
-            id,
+        RegionSettings {
             width: self.width,
             lines: self.lines,
             anchor,

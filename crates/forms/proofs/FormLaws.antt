@@ -76,6 +76,6 @@ after-id a b c d e f = simp (ended-append, append-assoc)
 pub join-region :
     (s : List ℕ) (r : Region)
     → join (regionLines (regionOfEntry s r))
-    ≡ (ascii "REGION" ++ afterLineEnds (writtenId (bytesAt s (r .id .from) (r .id .to)))) ++ afterLineEnds (numberLines r)
+    ≡ (ascii "REGION" ++ afterLineEnds (writtenId (bytesAt s (r .id .from) (r .id .to)))) ++ afterLineEnds (numberLines (r .settings))
 unfolding join regionLines regionOfEntry numberLines
 join-region s r = ap (λ x. ascii "REGION" ++ x) (after-id _ _ _ _ _ _)

@@ -6,7 +6,7 @@ use Rattle.format.specs.Texts.{bytesAt}
 use Rattle.format.specs.Bytes.{ascii}
 use Rattle.format.specs.Lines.{join}
 use Rattle.format.specs.Written.{decimalIn, writtenPercentage, writtenPoint, writtenScroll, setting, writtenTime, afterSpaces, linesOf}
-use Rattle.format.specs.declared.regions.Region.{Region}
+use Rattle.format.specs.declared.regions.RegionSettings.{RegionSettings}
 use Rattle.format.specs.declared.rows.CueEntry.{CueEntry}
 use Rattle.setting_forms.specs.Settings.{settingsForm}
 
@@ -19,7 +19,7 @@ cueForm s e name =
     join (linesOf (bytesAt s (e .id .from) (e .id .to)) ++ timingForm e name ∷ linesOf (bytesAt s (e .text .from) (e .text .to)))
 
 -- a region's lines after its identifier
-unfoldable pub numberLines : Region → List (List ℕ)
+unfoldable pub numberLines : RegionSettings → List (List ℕ)
 numberLines r =
     setting (ascii "width") (writtenPercentage (r .width))
     ++ setting (ascii "lines") (decimalIn 1 (r .lines))

@@ -1,6 +1,7 @@
 // The written form of one cue, one region and one style text, put into an output room from a place on. Any rows are taken, over any text.
 use format::regions::Point;
 use format::regions::Region;
+use format::regions::RegionSettings;
 use format::regions::Scroll;
 use format::rows::CueRow;
 use format::rows::RegionIndex;
@@ -128,16 +129,16 @@ fn scroll(s: Scroll, out: &mut [u8], at: usize) -> usize
 }
 
 // The lines of a region after its identifier, each after a line end.
-fn region_numbers(region: Region, out: &mut [u8], at: usize) -> usize
-    ensures { λ r. ⌜ Puts (afterLineEnds (numberLines region)) at (now (out .entry)) r (now (out .exit)) ⌝ }
+fn region_numbers(settings: RegionSettings, out: &mut [u8], at: usize) -> usize
+    ensures { λ r. ⌜ Puts (afterLineEnds (numberLines settings)) at (now (out .entry)) r (now (out .exit)) ⌝ }
 {
-    let anchored = region.anchor;
-    let seen = region.viewport;
-    let scrolls = region.scroll;
+    let anchored = settings.anchor;
+    let seen = settings.viewport;
+    let scrolls = settings.scroll;
     let width = bytes(b"\nwidth:", out, at);
-    let after_width = percentage(region.width, out, width);
+    let after_width = percentage(settings.width, out, width);
     let lines = bytes(b"\nlines:", out, after_width);
-    let after_lines = number(1, region.lines, out, lines);
+    let after_lines = number(1, settings.lines, out, lines);
     let anchor = bytes(b"\nregionanchor:", out, after_lines);
     let after_anchor = point(anchored, out, anchor);
     let viewport = bytes(b"\nviewportanchor:", out, after_anchor);
@@ -150,9 +151,10 @@ pub fn region(text: &[u8], region: Region, out: &mut [u8], at: usize) -> usize
     ensures { λ r. ⌜ Puts (join (regionLines (regionOfEntry (now (text .entry)) region))) at (now (out .entry)) r (now (out .exit)) ⌝ }
 {
     let id = region.id;
+    let settings = region.settings;
     let name = bytes(b"REGION", out, at);
     let numbers = identifier(part(text, id.from, id.to), out, name);
-    region_numbers(region, out, numbers)
+    region_numbers(settings, out, numbers)
 }
 
 // One style text without a last line end.

@@ -11,9 +11,8 @@ use Rattle.format.specs.Limits.{maxLine}
 use Rattle.format.specs.Texts.{Part, emptyPart, isEmpty, same, endsWith, beforeFirst}
 use Rattle.format.specs.Numbers.{percentage, LineNumber, lineNumber, overLine, lineCount}
 use Rattle.format.specs.Tokens.{inToken, onToken, beforeTokens, tokens, nameOf, valueOf, Flagged, folded}
-use Rattle.format.specs.CueSettings.{CueSettings, settingsAfter, nameAfter, isHorizontal, isOver, cueChange, changed, cueSetting, cueSettings}
-use Rattle.format.specs.RegionSettings.{RegionValues, TakenRegion, takenRegion, openingRegion, setId, setWidth, setLines, point, setAnchor}
-use Rattle.format.specs.RegionSettings.{setViewport, setScroll, namedRegion, regionSetting, regionFrom, regionSettings}
+use Rattle.format.specs.CueSettings.{CueSettings, settingsAfter, isOver, cueChange, changed, cueSetting, cueSettings}
+use Rattle.format.specs.RegionSettings.{RegionValues, regionChange, regionAfter, overRegion, regionSetting, regionSettings}
 use Rattle.format.specs.Times.{Result, failed, got, milliseconds, overHours}
 use Rattle.format.specs.TimingLines.{Times, timings, withSettings, timingOf, timingLine}
 use Rattle.format.specs.Lines.{join}
@@ -22,8 +21,7 @@ use Rattle.format.specs.Lists.{Cue, Item, nothing, cue, style, region, cueOf, r
 use Rattle.format.specs.Lists.{Lists, into, listed, itemOver, anyOver}
 use Rattle.format.specs.Rows.{ids, regionFor}
 use Rattle.format.specs.Contents.{cueContents, regionContents, contents}
-use Rattle.format.specs.declared.settings.Change.{Change}
-use Rattle.format.specs.declared.settings.Change.the-variants as Change
+use Rattle.laws.proofs.Changes.{name-after, id-after}
 
 -- values with every place and every number 0
 abbrev bare : Part → Part
@@ -39,10 +37,7 @@ abbrev bareSettings : CueSettings → CueSettings
 bareSettings c = record { settings = c .settings; region = bare (c .region) }
 
 abbrev bareValues : RegionValues → RegionValues
-bareValues r = setId (bare (r .id)) r
-
-bareRegion : TakenRegion → TakenRegion
-bareRegion t = record { region = bareValues (t .region); over = t .over }
+bareValues r = record { id = bare (r .id); settings = r .settings }
 
 -- two choices by the same test are alike where their parts are
 alike : {A B : Type 0} (f : A → B) (t : Bool) {a b c d : A} → f a ≡ f c → f b ≡ f d → f (cond t a b) ≡ f (cond t c d)
@@ -91,22 +86,11 @@ module _ {A : Type 0} (bareOf : A → A) (f : Part → A → Flagged A) where
     folds-alike : (v : Flagged A) (ts us : List Part) → partBytes ts ≡ partBytes us → flat (folded f v ts) ≡ flat (folded f v us)
     folds-alike v ts us e = fold-bytes v ts ∙ ap (byBytes (flat v)) e ∙ sym (fold-bytes v us)
 
--- a change keeps, takes or clears a region's name, wherever it stands
-name-bare : (h : Change) (x y n : Part) → bare x ≡ bare y → bare (nameAfter emptyPart h x n) ≡ bare (nameAfter emptyPart h y (bare n))
-name-bare Change.Nothing x y n e = refl
-name-bare Change.Over x y n e = refl
-name-bare Change.Region x y n e = e
-name-bare (Change.Vertical d) x y n e = alike bare (isHorizontal d) refl refl
-name-bare (Change.Line l) x y n e = refl
-name-bare (Change.Position p) x y n e = refl
-name-bare (Change.Size m) x y n e = alike bare (eqb m 100_000_000) refl refl
-name-bare (Change.Align a) x y n e = refl
-
 cue-setting : (t : Part) (c : CueSettings) → flat bareSettings cueSetting (cueSetting t c) ≡ flat bareSettings cueSetting (cueSetting (bare t) (bareSettings c))
 unfolding cueSetting changed cueChange nameOf valueOf
 cue-setting t c =
     let h = cueChange t (c .settings) in
-    ap (λ r. record { value = record { settings = settingsAfter h (c .settings); region = r }; over = isOver h }) (name-bare h (valueOf t) (valueOf (bare t)) (c .region) refl)
+    ap (λ r. record { value = record { settings = settingsAfter h (c .settings); region = r }; over = isOver h }) (name-after (λ x y. bare x ≡ bare y) refl h {x = valueOf t} {n = c .region} {y = valueOf (bare t)} {m = bare (c .region)} refl refl)
 
 abbrev bareTaken : Flagged CueSettings → Flagged CueSettings
 bareTaken v = flat bareSettings cueSetting v
@@ -118,74 +102,23 @@ unfolding cueSettings
 cue-settings p q x = folds-alike bareSettings cueSetting cue-setting _ (tokens p x) (tokens q x) (token-bytes p q x)
 
 -- the same for regions
-alike-values : (r q : RegionValues) → bareValues r ≡ bareValues q → bareRegion (takenRegion r) ≡ bareRegion (takenRegion q)
-unfolding bareRegion
-alike-values r q e = ap takenRegion e
+region-setting :
+    (t : Part) (r : RegionValues)
+    → flat bareValues regionSetting (regionSetting t r) ≡ flat bareValues regionSetting (regionSetting (bare t) (bareValues r))
+unfolding regionSetting regionChange nameOf valueOf
+region-setting t r =
+    let c = regionChange t in
+    ap (λ id. record { value = record { id = id; settings = regionAfter c (r .settings) }; over = overRegion c })
+    (id-after (λ x y. bare x ≡ bare y) c (valueOf t) (r .id) (valueOf (bare t)) (bare (r .id)) refl refl)
 
-module _ (r : RegionValues) where
-  unset-region : bareRegion (takenRegion r) ≡ bareRegion (takenRegion (bareValues r))
-  unfolding bareRegion setId
-  unset-region = refl
-
-  -- a setting whose value may be no value
-  set-option :
-      {A : Type 0} (set : Option A → RegionValues → RegionValues) (o : Option A)
-      → bareValues (set none r) ≡ bareValues (set none (bareValues r))
-      → ((a : A) → bareValues (set (some a) r) ≡ bareValues (set (some a) (bareValues r)))
-      → bareRegion (takenRegion (set o r)) ≡ bareRegion (takenRegion (set o (bareValues r)))
-  set-option set none n s = alike-values (set none r) (set none (bareValues r)) n
-  set-option set (some a) n s = alike-values (set (some a) r) (set (some a) (bareValues r)) (s a)
-
-  set-lines : (n : Option ℕ) → bareRegion (setLines n r) ≡ bareRegion (setLines n (bareValues r))
-  unfolding bareRegion setLines setId
-  set-lines none = refl
-  set-lines (some n) = alike bareRegion (ltb maxLine n) refl refl
-
-  named-region :
-      (name : List ℕ) (p q : ℕ) (x : List ℕ)
-      → bareRegion (namedRegion name (record { place = p; bytes = x }) r)
-      ≡ bareRegion (namedRegion name (record { place = q; bytes = x }) (bareValues r))
-  unfolding namedRegion setId setWidth setAnchor setViewport setScroll
-  named-region name p q x =
-      let b = bareValues r in
-      alike bareRegion (same name (ascii "id"))
-      (alike-values (setId (record { place = p; bytes = x }) r) (setId (record { place = q; bytes = x }) b) refl)
-      (alike bareRegion (same name (ascii "width")) (set-option setWidth (percentage x) refl (λ n. refl))
-      (alike bareRegion (same name (ascii "lines")) (set-lines (lineCount x))
-      (alike bareRegion (same name (ascii "regionanchor")) (set-option setAnchor (point x) refl (λ a. refl))
-      (alike bareRegion (same name (ascii "viewportanchor")) (set-option setViewport (point x) refl (λ a. refl))
-      (alike bareRegion (same name (ascii "scroll") && same x (ascii "up"))
-      (alike-values (setScroll r) (setScroll b) refl)
-      unset-region)))))
-
-  region-setting : (t : Part) → bareRegion (regionSetting t r) ≡ bareRegion (regionSetting (bare t) (bareValues r))
-  unfolding regionSetting nameOf valueOf
-  region-setting t =
-      let x = valueOf t .bytes in
-      alike bareRegion (isEmpty (nameOf t) || isEmpty x) unset-region
-      (named-region (nameOf t) (valueOf t .place) (valueOf (bare t) .place) x)
-
-regionBy : TakenRegion → List (List ℕ) → TakenRegion
-regionBy s [] = s
-regionBy s (x ∷ xs) =
-    let r = bareRegion (regionSetting (record { place = 0; bytes = x }) (s .region)) in
-    regionBy (record { region = r .region; over = s .over || r .over }) xs
-
-region-by : (s : TakenRegion) (ts : List Part) → bareRegion (regionFrom s ts) ≡ regionBy (bareRegion s) (partBytes ts)
-unfolding bareRegion regionBy regionFrom
-region-by s [] = refl
-region-by s (t ∷ ts) =
-    let r = regionSetting t (s .region) in
-    region-by (record { region = r .region; over = s .over || r .over }) ts
-    ∙ ap (λ r. regionBy (record { region = r .region; over = s .over || r .over }) (partBytes ts)) (region-setting (s .region) t)
+abbrev bareRegion : Flagged RegionValues → Flagged RegionValues
+bareRegion v = flat bareValues regionSetting v
 
 region-settings :
     (p q : ℕ) (x : List ℕ)
     → bareRegion (regionSettings (record { place = p; bytes = x })) ≡ bareRegion (regionSettings (record { place = q; bytes = x }))
 unfolding regionSettings
-region-settings p q x =
-    let opening = takenRegion openingRegion in
-    region-by opening (tokens p x) ∙ ap (regionBy (bareRegion opening)) (token-bytes p q x) ∙ sym (region-by opening (tokens q x))
+region-settings p q x = folds-alike bareValues regionSetting region-setting _ (tokens p x) (tokens q x) (token-bytes p q x)
 
 -- what a block gives, with every place 0
 abbrev bareCue : Cue → Cue
@@ -232,7 +165,7 @@ cue-of id line ls (got t rest) =
     ∙ ap (λ s. cueWith (id .bytes) t s (joined ls .bytes)) (cue-settings (0 + n) (line .place + n) rest)
 
 region-of : (p q : Part) → p .bytes ≡ q .bytes → bareItem (regionOf (regionSettings p)) ≡ bareItem (regionOf (regionSettings q))
-unfolding bareItem regionOf bareRegion
+unfolding bareItem regionOf
 region-of p q e =
     ap (λ x. bareItem (regionOf (regionSettings (record { place = p .place; bytes = x })))) e
     ∙ ap regionOf (region-settings (p .place) (q .place) (q .bytes))
@@ -289,7 +222,7 @@ listed-bare [] = refl
 listed-bare (i ∷ items) = ap (into (bareItem i)) (listed-bare items) ∙ into-bare i (listed items)
 
 ids-bare : (rs : List RegionValues) → ids (map bareValues rs) ≡ ids rs
-unfolding ids setId
+unfolding ids
 ids-bare [] = refl
 ids-bare (r ∷ rs) = ap (λ i. r .id .bytes ∷ i) (ids-bare rs)
 
@@ -302,7 +235,7 @@ map-alike f g h e [] = refl
 map-alike f g h e (x ∷ xs) = rw (e x, map-alike f g h e xs)
 
 region-contents : (r : RegionValues) → regionContents (bareValues r) ≡ regionContents r
-unfolding regionContents setId
+unfolding regionContents
 region-contents r = refl
 
 contents-bare : (l : Lists) → contents (bareLists l) ≡ contents l

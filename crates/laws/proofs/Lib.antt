@@ -13,6 +13,7 @@ pub mod Filling
 pub mod Runs
 pub mod Numbers
 pub mod Tokens
+pub mod Changes
 pub mod Standing
 pub mod Contents
 pub mod Names

@@ -121,7 +121,7 @@ cue-inverse e h l =
     )
 
 pub region-inverse : (r : Region) → regionEntry (regionWords r) ≡ r
-region-inverse r = rw (scroll-coded (r .scroll))
+region-inverse r = rw (scroll-coded (r .settings .scroll))
 
 ids-length : (rs : List RegionValues) → length (ids rs) ≡ length rs
 unfolding ids

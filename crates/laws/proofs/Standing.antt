@@ -14,7 +14,7 @@ use Rattle.format.specs.Limits.{maxLine}
 use Rattle.format.specs.Texts.{Part, emptyPart, isEmpty, same, endsWith, beforeFirst, run, pastRun, startsWith}
 use Rattle.format.specs.Numbers.{number, percentage, LineNumber, lineNumber, overLine, isNegative, millionths, lineCount}
 use Rattle.format.specs.Tokens.{inToken, onToken, beforeTokens, tokens, nameOf, valueOf, Flagged, folded}
-use Rattle.format.specs.CueSettings.{CueSettings, settingsAfter, nameAfter, isHorizontal, lineAlign, linePercentage, lineCounted, lineAligned, lineChange}
+use Rattle.format.specs.CueSettings.{CueSettings, settingsAfter, lineAlign, linePercentage, lineCounted, lineAligned, lineChange}
 use Rattle.format.specs.CueSettings.{positionAlign, positionAligned, positionChange, sizeChange, named, cueChange, changed, cueSetting, cueSettings}
 use Rattle.format.specs.declared.settings.Settings.{Settings}
 use Rattle.format.specs.declared.settings.Change.{Change}
@@ -23,8 +23,8 @@ use Rattle.format.specs.declared.settings.Line.{Line as LineSetting}
 use Rattle.format.specs.declared.settings.Line.the-variants as LineSetting
 use Rattle.format.specs.declared.settings.LineAlign.{LineAlign}
 use Rattle.format.specs.declared.settings.PositionAlign.{PositionAlign}
-use Rattle.format.specs.RegionSettings.{RegionValues, TakenRegion, setId, setWidth, setLines, point, setAnchor, setViewport, setScroll}
-use Rattle.format.specs.RegionSettings.{namedRegion, regionSetting, regionFrom, regionSettings, takenRegion, openingRegion}
+use Rattle.format.specs.Tokens.{Flagged, unflagged, folded}
+use Rattle.format.specs.RegionSettings.{RegionValues, openingValues, regionChange, regionSetting, regionSettings}
 use Rattle.format.specs.Times.{Result, failed, got, onGot, Step, _>>=_, holds, expect, hoursFirst, field, threeValues, inRange, lastSteps}
 use Rattle.format.specs.Times.{timestamp}
 use Rattle.format.specs.TimingLines.{skipWhite, arrow, Times, arrowAndEnd, timings, Timing, withSettings, timingOf, timingLine}
@@ -37,6 +37,7 @@ use Rattle.laws.proofs.Tests.{by-test}
 use Rattle.laws.proofs.Runs.{drop-take, pastRun-drop}
 use Rattle.laws.proofs.Lines.{splits}
 use Rattle.laws.proofs.Tokens.{after-at}
+use Rattle.laws.proofs.Changes.{name-after, id-after}
 
 -- these bytes stand at this place of the text
 abbrev pub StandsAt : List ℕ → ℕ → List ℕ → Type 0
@@ -135,50 +136,33 @@ Signed (LineSetting.At false n) = Unit
 Signed (LineSetting.At true n) = 0 < n
 
 -- a setting leaves a cue's region as it was, takes it away, or puts its value there
-module _ (P : Part → Type 0) (at-empty : P emptyPart) where
-  name-after : (h : Change) (x name : Part) → P x → P name → P (nameAfter emptyPart h x name)
-  name-after Change.Nothing x name v h = h
-  name-after Change.Over x name v h = h
-  name-after Change.Region x name v h = v
-  name-after (Change.Vertical d) x name v h = either P (isHorizontal d) h at-empty
-  name-after (Change.Line l) x name v h = at-empty
-  name-after (Change.Position p) x name v h = h
-  name-after (Change.Size n) x name v h = either P (eqb n 100_000_000) h at-empty
-  name-after (Change.Align a) x name v h = h
+cue-settings :
+    (P : Part → Type 0) (s : Flagged CueSettings) (ts : List Part)
+    → P emptyPart
+    → All (λ t. P (valueOf t)) ts
+    → P (s .value .region)
+    → P (folded cueSetting s ts .value .region)
+unfolding folded cueSetting changed
+cue-settings P s [] e v h = h
+cue-settings P s (t ∷ ts) e v h =
+    let r = cueSetting t (s .value) in
+    let n = s .value .region in
+    cue-settings P (record { value = r .value; over = s .over || r .over }) ts e (v .1)
+    (name-after (λ a b. P a) {b = n} e (cueChange t (s .value .settings)) {x = valueOf t} {n = n} {y = n} {m = n} (v .0) h)
 
-  cue-settings :
-      (s : Flagged CueSettings) (ts : List Part) → All (λ t. P (valueOf t)) ts → P (s .value .region) → P (folded cueSetting s ts .value .region)
-  unfolding folded cueSetting changed
-  cue-settings s [] v h = h
-  cue-settings s (t ∷ ts) v h =
-      let r = cueSetting t (s .value) in
-      cue-settings (record { value = r .value; over = s .over || r .over }) ts (v .1)
-      (name-after (cueChange t (s .value .settings)) (valueOf t) (s .value .region) (v .0) h)
-
-  -- the same for a region's identifier
-  unfoldable pub OfRegion : TakenRegion → Type 0
-  OfRegion t = P (t .region .id)
-
-  region-setting : (t : Part) (r : RegionValues) → P (valueOf t) → P (r .id) → OfRegion (regionSetting t r)
-  unfolding OfRegion regionSetting namedRegion setId setWidth setLines setAnchor setViewport setScroll
-  region-setting t r v h =
-      let name = nameOf t in
-      let x = valueOf t .bytes in
-      either OfRegion (isEmpty name || isEmpty x) h
-      (either OfRegion (same name (ascii "id")) v
-      (either OfRegion (same name (ascii "width")) (by-option (λ n. P (setWidth n r .id)) (percentage x) h (λ n. h))
-      (either OfRegion (same name (ascii "lines"))
-      (by-option (λ n. OfRegion (setLines n r)) (lineCount x) h (λ n. either OfRegion (ltb maxLine n) h h))
-      (either OfRegion (same name (ascii "regionanchor")) (by-option (λ p. P (setAnchor p r .id)) (point x) h (λ p. h))
-      (either OfRegion (same name (ascii "viewportanchor")) (by-option (λ p. P (setViewport p r .id)) (point x) h (λ p. h))
-      (either OfRegion (same name (ascii "scroll") && same x (ascii "up")) h h))))))
-
-  pub region-settings : (s : TakenRegion) (ts : List Part) → All (λ t. P (valueOf t)) ts → OfRegion s → OfRegion (regionFrom s ts)
-  unfolding OfRegion regionFrom
-  region-settings s [] v h = h
-  region-settings s (t ∷ ts) v h =
-      let r = regionSetting t (s .region) in
-      region-settings (record { region = r .region; over = s .over || r .over }) ts (v .1) (region-setting t (s .region) (v .0) h)
+-- a setting leaves a region's identifier as it was, or puts its value there
+pub region-id :
+    (P : Part → Type 0) (s : Flagged RegionValues) (ts : List Part)
+    → All (λ t. P (valueOf t)) ts
+    → P (s .value .id)
+    → P (folded regionSetting s ts .value .id)
+unfolding folded regionSetting
+region-id P s [] v h = h
+region-id P s (t ∷ ts) v h =
+    let r = regionSetting t (s .value) in
+    let x = valueOf t in
+    let id = s .value .id in
+    region-id P (record { value = r .value; over = s .over || r .over }) ts (v .1) (id-after (λ a b. P a) (regionChange t) x id x id (v .0) h)
 
 -- no setting makes a line minus zero
 line-signed : (n : LineNumber) → Signed (LineSetting.At (isNegative n) (millionths (n .size)))
@@ -267,13 +251,12 @@ pub stands-cue-settings : (s : List ℕ) (p : Part) → Stands s p → Stands s 
 unfolding cueSettings
 stands-cue-settings s p h =
     let none = stands-empty s in
-    cue-settings (Stands s) none _ (tokens (p .place) (p .bytes)) (stands-values s p h) none
+    cue-settings (Stands s) _ (tokens (p .place) (p .bytes)) none (stands-values s p h) none
 
-pub stands-region : (s : List ℕ) (p : Part) → Stands s p → Stands s (regionSettings p .region .id)
-unfolding regionSettings OfRegion
+pub stands-region : (s : List ℕ) (p : Part) → Stands s p → Stands s (regionSettings p .value .id)
+unfolding regionSettings
 stands-region s p h =
-    let none = stands-empty s in
-    region-settings (Stands s) none (takenRegion openingRegion) (tokens (p .place) (p .bytes)) (stands-values s p h) none
+    region-id (Stands s) (unflagged openingValues) (tokens (p .place) (p .bytes)) (stands-values s p h) (stands-empty s)
 
 -- what a step leaves is the end of what it was given
 pub record End (s rest : List ℕ) : Type 0 where

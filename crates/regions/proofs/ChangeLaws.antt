@@ -1,25 +1,28 @@
--- The code's changes to a region are the definition's settings.
+-- The code's answers for a setting's value give the definition's changes, and its fold over spans is the definition's fold over parts.
 use Prim.Native.Nat.{ℕ}
-use mathlib.Core.Path.{_≡_, refl}
-use mathlib.Core.Bool.{true, false, _||_}
+use mathlib.Core.Path.{_≡_, refl, sym, ap}
+use mathlib.Core.Bool.{_||_}
 use mathlib.Core.List.{List, [], _∷_}
 use mathlib.Core.Option.{Option, none, some}
 use lib.Dec.{ltb}
-use Rattle.format.specs.Bytes.{ascii}
-use Rattle.format.specs.Texts.{Part, same, isEmpty}
-use Rattle.format.specs.Numbers.{percentage, lineCount}
-use Rattle.format.specs.Tokens.{nameOf, valueOf}
-use Rattle.format.specs.RegionSettings.{RegionValues, TakenRegion, takenRegion, regionIs, point, pointOf, setId, setWidth, setLines, setAnchor, setViewport, setScroll, namedRegion, regionSetting, regionFrom}
+use Rattle.format.specs.Texts.{Part}
+use Rattle.format.specs.Tokens.{Flagged, folded, valueOf}
+use Rattle.format.specs.CueSettings.{spanIs}
+use Rattle.format.specs.RegionSettings.{RegionValues, pointOf, widthChange, linesChange, anchorChange, viewportChange, regionAfter, overRegion, regionChange, regionSetting}
 use Rattle.format.specs.declared.regions.Point.{Point}
+use Rattle.format.specs.declared.regions.RegionChange.{RegionChange}
+use Rattle.format.specs.declared.regions.RegionChange.the-variants as RegionChange
 use Rattle.laws.proofs.Tests.{by-test}
+use Rattle.laws.proofs.Changes.{id-after, stepped, folds-as}
 use Rattle.values.specs.declared.numbers.Percentage.{Percentage}
 use Rattle.values.specs.declared.numbers.Percentage.the-variants as Percentage
+use Rattle.values.specs.declared.numbers.LineCount.{LineCount}
+use Rattle.values.specs.declared.numbers.LineCount.the-variants as LineCount
 use Rattle.values.specs.Numbers.{percentageIs, lineCountIs}
 use Rattle.regions.specs.declared.PointRead.{PointRead}
 use Rattle.regions.specs.declared.PointRead.the-variants as PointRead
-use Rattle.regions.specs.declared.RegionChange.{RegionChange}
-use Rattle.regions.specs.declared.RegionChange.the-variants as RegionChange
-use Rattle.regions.specs.Changes.{regionNameIs, pointIs, widthChange, linesChange, anchorChange, namedChange, changeOf, applied, isOver, stepIs, foldIs, takenIs}
+use Rattle.regions.specs.declared.RegionTaken.{RegionTaken}
+use Rattle.regions.specs.Changes.{pointIs, stepIs, takenIs}
 
 abbrev pub pointFrom : Percentage → Percentage → PointRead
 pointFrom Percentage.Bad y = PointRead.Bad
@@ -32,66 +35,54 @@ point-is none p = refl
 point-is (some x) none = refl
 point-is (some x) (some y) = refl
 
--- a change of the code and a setting of the definition do the same
-record Agrees (h : RegionChange) (r : RegionValues) (t : TakenRegion) : Type 0 where
-  same : applied h (regionIs r) ≡ regionIs (t .region)
-  over : isOver h ≡ t .over
+-- what each answer of the code changes
+abbrev pub widthFrom : Percentage → RegionChange
+widthFrom Percentage.Bad = RegionChange.Nothing
+widthFrom (Percentage.Good n) = RegionChange.Width n
 
-abbrev unchanged : (r : RegionValues) → Agrees RegionChange.Nothing r (takenRegion r)
-unchanged r = record { same = refl; over = refl }
+pub width-is : (o : Option ℕ) → widthChange o ≡ widthFrom (percentageIs o)
+unfolding widthChange
+width-is none = refl
+width-is (some n) = refl
 
-width-agrees : (o : Option ℕ) (r : RegionValues) → Agrees (widthChange (percentageIs o)) r (takenRegion (setWidth o r))
-unfolding setWidth
-width-agrees none r = unchanged r
-width-agrees (some n) r = record { same = refl; over = refl }
+abbrev pub linesFrom : LineCount → RegionChange
+linesFrom LineCount.Bad = RegionChange.Nothing
+linesFrom LineCount.Over = RegionChange.Over
+linesFrom (LineCount.Good n) = RegionChange.Lines n
 
-lines-agree : (o : Option ℕ) (r : RegionValues) → Agrees (linesChange (lineCountIs o)) r (setLines o r)
-unfolding setLines
-lines-agree none r = unchanged r
-lines-agree (some n) r =
-    by-test (ltb 999_999 n)
-    (λ y. rw y (record { same = refl; over = refl }))
-    (λ z. rw z (record { same = refl; over = refl }))
+pub lines-is : (o : Option ℕ) → linesChange o ≡ linesFrom (lineCountIs o)
+unfolding linesChange
+lines-is none = refl
+lines-is (some n) = by-test (ltb 999_999 n) (λ y. rw y) (λ z. rw z)
 
-anchor-agrees : (o : Option Point) (r : RegionValues) → Agrees (anchorChange (pointIs o) false) r (takenRegion (setAnchor o r))
-unfolding setAnchor
-anchor-agrees none r = unchanged r
-anchor-agrees (some p) r = record { same = refl; over = refl }
+abbrev pub anchorFrom : PointRead → RegionChange
+anchorFrom PointRead.Bad = RegionChange.Nothing
+anchorFrom (PointRead.Good p) = RegionChange.Anchor p
 
-viewport-agrees : (o : Option Point) (r : RegionValues) → Agrees (anchorChange (pointIs o) true) r (takenRegion (setViewport o r))
-unfolding setViewport
-viewport-agrees none r = unchanged r
-viewport-agrees (some p) r = record { same = refl; over = refl }
+pub anchor-is : (o : Option Point) → anchorChange o ≡ anchorFrom (pointIs o)
+unfolding anchorChange
+anchor-is none = refl
+anchor-is (some p) = refl
 
-named-agrees : (name : List ℕ) (x : Part) (r : RegionValues) → Agrees (namedChange (regionNameIs name) x) r (namedRegion name x r)
-unfolding namedRegion setId setScroll
-named-agrees name x r =
-    by-test (same name (ascii "id")) (λ y. rw y (record { same = refl; over = refl }))
-    (λ n₁. by-test (same name (ascii "width")) (λ y. rw (n₁, y) (width-agrees (percentage (x .bytes)) r))
-    (λ n₂. by-test (same name (ascii "lines")) (λ y. rw (n₁, n₂, y) (lines-agree (lineCount (x .bytes)) r))
-    (λ n₃. by-test (same name (ascii "regionanchor")) (λ y. rw (n₁, n₂, n₃, y) (anchor-agrees (point (x .bytes)) r))
-    (λ n₄. by-test (same name (ascii "viewportanchor")) (λ y. rw (n₁, n₂, n₃, n₄, y) (viewport-agrees (point (x .bytes)) r))
-    (λ n₅. by-test (same name (ascii "scroll"))
-    (λ y. by-test (same (x .bytes) (ascii "up"))
-    (λ u. rw (n₁, n₂, n₃, n₄, n₅, y, u) (record { same = refl; over = refl }))
-    (λ v. rw (n₁, n₂, n₃, n₄, n₅, y, v) (unchanged r)))
-    (λ n₆. rw (n₁, n₂, n₃, n₄, n₅, n₆) (unchanged r)))))))
+abbrev pub viewportFrom : PointRead → RegionChange
+viewportFrom PointRead.Bad = RegionChange.Nothing
+viewportFrom (PointRead.Good p) = RegionChange.Viewport p
 
-change-agrees : (t : Part) (r : RegionValues) → Agrees (changeOf t) r (regionSetting t r)
-unfolding changeOf regionSetting
-change-agrees t r =
-    by-test (isEmpty (nameOf t) || isEmpty (valueOf t .bytes))
-    (λ y. rw y (unchanged r))
-    (λ n. rw n (named-agrees (nameOf t) (valueOf t) r))
+pub viewport-is : (o : Option Point) → viewportChange o ≡ viewportFrom (pointIs o)
+unfolding viewportChange
+viewport-is none = refl
+viewport-is (some p) = refl
 
-pub step-is : (t : Part) (r : RegionValues) → stepIs t (takenIs (takenRegion r)) ≡ takenIs (regionSetting t r)
-step-is t r = let a = change-agrees t r in rw (a .same, a .over)
+-- one token: of each part that may become the identifier the code has the span
+step-is :
+    (t : Part) (v : Flagged RegionValues)
+    → stepIs t (takenIs v) ≡ takenIs (record { value = regionSetting t (v .value) .value; over = v .over || regionSetting t (v .value) .over })
+unfolding regionSetting
+step-is t v =
+    let h = regionChange t in
+    ap (λ id. record { region = record { id = id; settings = regionAfter h (v .value .settings) }; over = v .over || overRegion h })
+    (sym (id-after (λ p n. spanIs p ≡ n) h (valueOf t) (v .value .id) (spanIs (valueOf t)) (spanIs (v .value .id)) refl refl))
 
 -- token after token
-pub fold-is : (d : TakenRegion) (ts : List Part) → foldIs (takenIs d) ts ≡ takenIs (regionFrom d ts)
-unfolding foldIs regionFrom
-fold-is d [] = refl
-fold-is d (t ∷ ts) =
-    let a = change-agrees t (d .region) in
-    rw (a .same, a .over)
-    (fold-is (record { region = regionSetting t (d .region) .region; over = d .over || regionSetting t (d .region) .over }) ts)
+pub fold-is : (v : Flagged RegionValues) (ts : List Part) → stepped stepIs (takenIs v) ts ≡ takenIs (folded regionSetting v ts)
+fold-is v ts = folds-as regionSetting takenIs stepIs step-is v ts

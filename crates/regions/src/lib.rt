@@ -1,6 +1,8 @@
 // A region's settings, read from a block's text: one token at a time, each as what it changes. Any bytes are taken.
 use format::regions::Point;
 use format::regions::Region;
+use format::regions::RegionChange;
+use format::regions::RegionSettings;
 use format::settings::Span;
 use values::bytes::ByteKind;
 use values::bytes::same_bytes;
@@ -12,44 +14,9 @@ ghost use mathlib.Core.Path.{_≡_};
 ghost use Prim.Native.Nat.{_≤_};
 ghost use lib.ListN.{length};
 ghost use Rattle.format.specs.Numbers.{percentage, lineCount};
-ghost use Rattle.format.specs.RegionSettings.{point, regionSettings};
-ghost use Rattle.values.specs.Numbers.{percentageIs, lineCountIs};
-ghost use Rattle.values.specs.Tokens.{tokenFrom, partOf};
-ghost use Rattle.regions.specs.Changes.{regionNameIs, pointIs, widthChange, linesChange, anchorChange, scrollChange, namedChange, changeOf, applied, isOver, stepIs, takenIs};
-
-pub enum RegionName {
-    Id,
-    Width,
-    Lines,
-    Anchor,
-    Viewport,
-    Scroll,
-    Other,
-}
-
-fn region_name(name: &[u8]) -> RegionName
-    ensures { λ r. ⌜ r ≡ regionNameIs (now (name .entry)) ⌝ }
-{
-    if same_bytes(name, b"id") {
-        return RegionName::Id;
-    }
-    if same_bytes(name, b"width") {
-        return RegionName::Width;
-    }
-    if same_bytes(name, b"lines") {
-        return RegionName::Lines;
-    }
-    if same_bytes(name, b"regionanchor") {
-        return RegionName::Anchor;
-    }
-    if same_bytes(name, b"viewportanchor") {
-        return RegionName::Viewport;
-    }
-    if same_bytes(name, b"scroll") {
-        return RegionName::Scroll;
-    }
-    RegionName::Other
-}
+ghost use Rattle.format.specs.RegionSettings.{regionAfter, idAfter, overRegion, widthChange, linesChange, point, anchorChange, viewportChange, regionNamed, regionSettings};
+ghost use Rattle.values.specs.Tokens.{Named, tokenFrom, partOf};
+ghost use Rattle.regions.specs.Changes.{pointIs, stepIs, takenIs};
 
 pub enum PointRead {
     Bad,
@@ -75,21 +42,8 @@ fn read_point(value: &[u8]) -> PointRead
     PointRead::Good(Point { x, y })
 }
 
-// What a token changes.
-pub enum RegionChange {
-    Nothing,
-    // A number above its limit, which is not kept.
-    Over,
-    Id(Span),
-    Width(u64),
-    Lines(u64),
-    Anchor(Point),
-    Viewport(Point),
-    Scroll,
-}
-
 fn width_change(value: &[u8]) -> RegionChange
-    ensures { λ r. ⌜ r ≡ widthChange (percentageIs (percentage (now (value .entry)))) ⌝ }
+    ensures { λ r. ⌜ r ≡ widthChange (percentage (now (value .entry))) ⌝ }
 {
     match values::numbers::read_percentage(value) {
         Percentage::Bad => RegionChange::Nothing,
@@ -98,7 +52,7 @@ fn width_change(value: &[u8]) -> RegionChange
 }
 
 fn lines_change(value: &[u8]) -> RegionChange
-    ensures { λ r. ⌜ r ≡ linesChange (lineCountIs (lineCount (now (value .entry)))) ⌝ }
+    ensures { λ r. ⌜ r ≡ linesChange (lineCount (now (value .entry))) ⌝ }
 {
     match values::numbers::read_line_count(value) {
         LineCount::Bad => RegionChange::Nothing,
@@ -107,79 +61,87 @@ fn lines_change(value: &[u8]) -> RegionChange
     }
 }
 
-// An anchor, of the region or of the viewport.
-fn anchor_change(value: &[u8], viewport: bool) -> RegionChange
-    ensures { λ r. ⌜ r ≡ anchorChange (pointIs (point (now (value .entry)))) viewport ⌝ }
+fn anchor_change(value: &[u8]) -> RegionChange
+    ensures { λ r. ⌜ r ≡ anchorChange (point (now (value .entry))) ⌝ }
 {
-    let read = read_point(value);
-    let PointRead::Good(p) = read else {
-        return RegionChange::Nothing;
-    };
-    if viewport {
-        return RegionChange::Viewport(p);
+    match read_point(value) {
+        PointRead::Bad => RegionChange::Nothing,
+        PointRead::Good(p) => RegionChange::Anchor(p),
     }
-    RegionChange::Anchor(p)
 }
 
-fn scroll_change(value: &[u8]) -> RegionChange
-    ensures { λ r. ⌜ r ≡ scrollChange (now (value .entry)) ⌝ }
+fn viewport_change(value: &[u8]) -> RegionChange
+    ensures { λ r. ⌜ r ≡ viewportChange (point (now (value .entry))) ⌝ }
 {
-    if same_bytes(value, b"up") {
+    match read_point(value) {
+        PointRead::Bad => RegionChange::Nothing,
+        PointRead::Good(p) => RegionChange::Viewport(p),
+    }
+}
+
+// What the setting of this name changes by its value.
+fn named_change(name: &[u8], value: &[u8]) -> RegionChange
+    ensures { λ r. ⌜ r ≡ regionNamed (now (name .entry)) (now (value .entry)) ⌝ }
+{
+    if same_bytes(name, b"id") {
+        return RegionChange::Id;
+    }
+    if same_bytes(name, b"width") {
+        return width_change(value);
+    }
+    if same_bytes(name, b"lines") {
+        return lines_change(value);
+    }
+    if same_bytes(name, b"regionanchor") {
+        return anchor_change(value);
+    }
+    if same_bytes(name, b"viewportanchor") {
+        return viewport_change(value);
+    }
+    if same_bytes(name, b"scroll") && same_bytes(value, b"up") {
         return RegionChange::Scroll;
     }
     RegionChange::Nothing
 }
 
-// What the setting of this name does with its value, which stands from `from` up to the end of `s`.
-fn named_change(name: RegionName, s: &[u8], from: usize) -> RegionChange
-    requires { ⌜ from ≤ length (now s) ⌝ }
-    ensures { λ r. ⌜ r ≡ namedChange name (tokenFrom (now (s .entry)) from) ⌝ }
-{
-    let value = &s[from..];
-    match name {
-        RegionName::Id => RegionChange::Id(values::tokens::span(from, s.len())),
-        RegionName::Width => width_change(value),
-        RegionName::Lines => lines_change(value),
-        RegionName::Anchor => anchor_change(value, false),
-        RegionName::Viewport => anchor_change(value, true),
-        RegionName::Scroll => scroll_change(value),
-        RegionName::Other => RegionChange::Nothing,
-    }
-}
-
-// What the token from `from` up to the end of `s` changes.
-fn token_change(s: &[u8], from: usize) -> RegionChange
-    requires { ⌜ from ≤ length (now s) ⌝ }
-    ensures { λ r. ⌜ r ≡ changeOf (tokenFrom (now (s .entry)) from) ⌝ }
-{
-    match values::tokens::name_end(s, from) {
-        NameEnd::None => RegionChange::Nothing,
-        NameEnd::At(colon) => named_change(region_name(&s[from..colon]), s, colon + 1),
-    }
-}
-
-fn apply(region: Region, change: RegionChange) -> Region
-    ensures { λ r. ⌜ r ≡ applied change region ⌝ }
+fn apply(settings: RegionSettings, change: RegionChange) -> RegionSettings
+    ensures { λ r. ⌜ r ≡ regionAfter change settings ⌝ }
 {
     match change {
-        RegionChange::Nothing => region,
-        RegionChange::Over => region,
-        RegionChange::Id(id) => region.with_id(id),
-        RegionChange::Width(width) => region.with_width(width),
-        RegionChange::Lines(lines) => region.with_lines(lines),
-        RegionChange::Anchor(point) => region.with_anchor(point),
-        RegionChange::Viewport(point) => region.with_viewport(point),
-        RegionChange::Scroll => region.with_scroll(),
+        RegionChange::Nothing => settings,
+        RegionChange::Over => settings,
+        RegionChange::Id => settings,
+        RegionChange::Width(width) => settings.with_width(width),
+        RegionChange::Lines(lines) => settings.with_lines(lines),
+        RegionChange::Anchor(point) => settings.with_anchor(point),
+        RegionChange::Viewport(point) => settings.with_viewport(point),
+        RegionChange::Scroll => settings.with_scroll(),
+    }
+}
+
+// The identifier after a setting with this value.
+fn id_after(change: RegionChange, value: Span, id: Span) -> Span
+    ensures { λ r. ⌜ r ≡ idAfter change value id ⌝ }
+{
+    match change {
+        RegionChange::Nothing => id,
+        RegionChange::Over => id,
+        RegionChange::Id => value,
+        RegionChange::Width(_) => id,
+        RegionChange::Lines(_) => id,
+        RegionChange::Anchor(_) => id,
+        RegionChange::Viewport(_) => id,
+        RegionChange::Scroll => id,
     }
 }
 
 fn is_over(change: RegionChange) -> bool
-    ensures { λ r. ⌜ r ≡ isOver change ⌝ }
+    ensures { λ r. ⌜ r ≡ overRegion change ⌝ }
 {
     match change {
         RegionChange::Nothing => false,
         RegionChange::Over => true,
-        RegionChange::Id(_) => false,
+        RegionChange::Id => false,
         RegionChange::Width(_) => false,
         RegionChange::Lines(_) => false,
         RegionChange::Anchor(_) => false,
@@ -194,17 +156,33 @@ pub struct RegionTaken {
     pub over: bool,
 }
 
+// The setting whose name ends at the colon at `colon`, and whose value ends with `s`, taken into account.
+fn take_setting(s: &[u8], from: usize, colon: usize, taken: RegionTaken) -> RegionTaken
+    requires { ⌜ Named (now s) from colon ⌝ }
+    ensures { λ r. ⌜ r ≡ stepIs (tokenFrom (now (s .entry)) from) taken ⌝ }
+{
+    let change = named_change(&s[from..colon], &s[colon + 1..]);
+    let over = taken.over || is_over(change);
+    let region = taken.region;
+    let id = id_after(change, values::tokens::span(colon + 1, s.len()), region.id);
+    let settings = region.settings;
+    RegionTaken {
+        region: Region {
+            id,
+            settings: apply(settings, change),
+        },
+        over,
+    }
+}
+
 // The token from `from` up to the end of `s`, taken into account.
 fn step(s: &[u8], from: usize, taken: RegionTaken) -> RegionTaken
     requires { ⌜ from ≤ length (now s) ⌝ }
     ensures { λ r. ⌜ r ≡ stepIs (tokenFrom (now (s .entry)) from) taken ⌝ }
 {
-    let change = token_change(s, from);
-    let over = taken.over || is_over(change);
-    let region = taken.region;
-    RegionTaken {
-        region: apply(region, change),
-        over,
+    match values::tokens::name_end(s, from) {
+        NameEnd::None => taken,
+        NameEnd::At(colon) => take_setting(s, from, colon, taken),
     }
 }
 
@@ -215,7 +193,10 @@ fn read_region(s: &[u8], from: usize) -> RegionTaken
 {
     let mut i = from;
     let mut taken = RegionTaken {
-        region: Region::opening(),
+        region: Region {
+            id: Span::NONE,
+            settings: RegionSettings::opening(),
+        },
         over: false,
     };
     loop {

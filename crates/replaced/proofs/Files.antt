@@ -8,14 +8,15 @@ use mathlib.Core.Option.{Option, none, some}
 use native.Mathlib.Omega.{arith}
 use lib.Dec.{ltb}
 use lib.ListN.{length, getD, take, drop}
+use lib.Seq.{getD-set-same}
 use borrow.Author.Tests.{ltb-true, not-false}
 use Rattle.format.specs.Plain.{plainText}
 use Rattle.format.specs.Lines.{split}
 use Rattle.format.specs.Blocks.{hasSignature}
 use Rattle.format.specs.Lists.{items, lists, anyOver}
 use Rattle.format.specs.Answers.{Answer, accepted, ifAccepted, fileAnswer, placed}
-use Rattle.format.specs.Contents.{cueOfEntry}
-use Rattle.format.specs.Replacing.{cueBlocks, firstLine, lastLine, ownStart, ownEnd, cueAsked, newCueFails, withRegion, regionNames, newForm, newFile, noGap, unlessTest, replacingIs, replacingText, replacing, replacedRoom, Replaced}
+use Rattle.format.specs.Contents.{cueOfEntry, CueContents, contents}
+use Rattle.format.specs.Replacing.{cueBlocks, firstLine, lastLine, ownStart, ownEnd, cueAsked, newCueFails, withRegion, regionNames, newForm, newFile, withCue, noGap, unlessTest, replacingIs, replacingText, replacing, replacedRoom, Replaced}
 use Rattle.format.specs.declared.Replacing.{Replacing}
 use Rattle.format.specs.declared.Replacing.the-variants as Replacing
 use Rattle.laws.proofs.Answers.{after-test, after-answer, front, file-made, reads-again}
@@ -110,3 +111,14 @@ room-replaced raw number t w scratch out left r e room n q =
     let ok = accepts raw number t w scratch (length out) (n ∷ []) is in
     rw (front new out left n placed-there (file-made new (length out) (n ∷ []) (ok .made) .size n refl))
     (replaced raw number t w scratch (length out) (n ∷ []) is)
+
+-- the old file is no new one, but where the cue asked for stands there already
+pub old-file :
+    (raw : List ℕ) (number : ℕ) (t w : List ℕ) (d : CueContents)
+    → number < length (contents (lists (plainText raw)) .cues)
+    → Replaced raw number t w raw
+    → getD (contents (lists (plainText raw)) .cues) number d ≡ cueAsked t w (regionNames (plainText raw))
+unfolding withCue
+old-file raw number t w d h k =
+    let cues = contents (lists (plainText raw)) .cues in
+    ap (λ c. getD (c .cues) number d) (k .reads) ∙ getD-set-same cues number (cueAsked t w (regionNames (plainText raw))) d h

@@ -8,15 +8,15 @@ use lib.Dec.{eqb}
 use lib.ListN.{getD}
 use Rattle.format.specs.Bytes.{ascii, colon, white}
 use Rattle.format.specs.Texts.{Part, emptyPart, all, afterFirst}
-use Rattle.format.specs.Tokens.{inToken, onToken, beforeTokens, tokens, valueOf}
-use Rattle.format.specs.RegionSettings.{RegionValues, takenRegion, openingRegion, regionSettings}
+use Rattle.format.specs.Tokens.{unflagged, inToken, onToken, beforeTokens, tokens, valueOf}
+use Rattle.format.specs.RegionSettings.{RegionValues, openingValues, regionSettings}
 use Rattle.format.specs.TimingLines.{Timing, timingLine}
 use Rattle.format.specs.Blocks.{Line, linePart, holdsArrow, blocks, joined}
 use Rattle.format.specs.Lists.{Item, nothing, cue, style, region, cueOf, regionOf, isWord, definition, meaning, isCue, itemsFrom, items, into, listed, lists}
 use Rattle.format.specs.Rows.{ids}
 use Rattle.laws.proofs.Tests.{by-test, and-right}
 use Rattle.laws.proofs.Tokens.{inside as black}
-use Rattle.laws.proofs.Standing.{All, either, OfRegion, region-settings}
+use Rattle.laws.proofs.Standing.{All, either, region-id}
 
 abbrev Dark : Part → Type 0
 Dark t = all black (t .bytes) ≡ true
@@ -47,11 +47,11 @@ unfolding valueOf
 dark-values [] h = tt
 dark-values (t ∷ ts) h = (dark-after colon (t .bytes) (h .0), dark-values ts (h .1))
 
-dark-region : (p : Part) → Dark (regionSettings p .region .id)
-unfolding regionSettings OfRegion all
+dark-region : (p : Part) → Dark (regionSettings p .value .id)
+unfolding regionSettings all
 dark-region p =
     let ts = tokens (p .place) (p .bytes) in
-    region-settings Dark refl (takenRegion openingRegion) ts (dark-values ts (dark-tokens (p .place) (p .bytes))) refl
+    region-id Dark (unflagged openingValues) ts (dark-values ts (dark-tokens (p .place) (p .bytes))) refl
 
 -- an item's region has such a name
 abbrev DarkItem : Item → Type 0

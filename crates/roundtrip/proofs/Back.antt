@@ -69,3 +69,7 @@ room-back s styles regions cues out left r e room n q =
     let there : left ≡ placed f out = rw is at room in
     let size = file-made f (length out) (n ∷ []) (file-answer s styles regions cues (length out) (n ∷ []) is) .size n refl in
     rw (front f out left n there size) (writes-back s styles regions cues (length out) (n ∷ []) is)
+
+-- one file is read back as one list: a program that writes the same file for two lists keeps the promise of one of them at most
+pub one-file : (c d : Contents) (file : List ℕ) → ReadBack c file → ReadBack d file → c ≡ d
+one-file c d file f g = sym (f .reads) ∙ g .reads

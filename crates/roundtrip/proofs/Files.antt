@@ -140,15 +140,7 @@ ids-contents (r ∷ read) = ap (λ x. r .id .bytes ∷ x) (ids-contents read)
 
 -- values with these contents
 valued : RegionContents → RegionValues
-valued r =
-    record {
-      id = record { place = 0; bytes = r .id };
-      width = r .width;
-      lines = r .lines;
-      anchor = r .anchor;
-      viewport = r .viewport;
-      scroll = r .scroll;
-    }
+valued r = record { id = record { place = 0; bytes = r .id }; settings = r .settings }
 
 ids-valued : (rs : List RegionContents) → ids (map valued rs) ≡ map (λ r. r .id) rs
 unfolding ids valued

@@ -317,15 +317,16 @@ plain-scroll Scroll.Up = plain-word (ascii "scroll") (ascii "up") refl refl
 plain-later : (c : RegionContents) → All Plain (laterLines c)
 unfolding laterLines all plainByte
 plain-later c =
-    let lines = decimalIn 1 (c .lines) in (
-      plain-named (ascii "width") (writtenPercentage (c .width)) refl (plain-percentage (c .width)),
+    let r = c .settings in
+    let lines = decimalIn 1 (r .lines) in (
+      plain-named (ascii "width") (writtenPercentage (r .width)) refl (plain-percentage (r .width)),
       (
-        plain-named (ascii "lines") lines refl (plain-numeral lines (decimalIn-numeral 1 (c .lines))),
+        plain-named (ascii "lines") lines refl (plain-numeral lines (decimalIn-numeral 1 (r .lines))),
         (
-          plain-named (ascii "regionanchor") (writtenPoint (c .anchor)) refl (plain-point (c .anchor)),
+          plain-named (ascii "regionanchor") (writtenPoint (r .anchor)) refl (plain-point (r .anchor)),
           (
-            plain-named (ascii "viewportanchor") (writtenPoint (c .viewport)) refl (plain-point (c .viewport)),
-            plain-scroll (c .scroll),
+            plain-named (ascii "viewportanchor") (writtenPoint (r .viewport)) refl (plain-point (r .viewport)),
+            plain-scroll (r .scroll),
           ),
         ),
       ),

@@ -14,8 +14,9 @@ use Rattle.format.specs.Limits.{maxLine}
 use Rattle.format.specs.Texts.{Part, emptyPart, startsWith, same, isEmpty, all, has, bytesAt}
 use Rattle.format.specs.Lines.{join}
 use Rattle.format.specs.Blocks.{linesAt, holdsArrow}
-use Rattle.format.specs.RegionSettings.{RegionValues, openingRegion, TakenRegion, takenRegion, setId, setWidth, setLines, pointOf, point}
-use Rattle.format.specs.RegionSettings.{setAnchor, setViewport, setScroll, namedRegion, regionSetting, regionFrom, regionSettings}
+use Rattle.format.specs.Tokens.{Flagged, unflagged, folded, valueOf}
+use Rattle.format.specs.RegionSettings.{RegionValues, openingRegion, openingValues, regionAfter, idAfter, overRegion, widthChange, linesChange}
+use Rattle.format.specs.RegionSettings.{pointOf, point, anchorChange, viewportChange, regionNamed, regionChange, regionSetting, regionSettings}
 use Rattle.format.specs.Lists.{Item, region, regionOf, meaning}
 use Rattle.format.specs.Contents.{RegionContents, regionContents, regionOfRow}
 use Rattle.format.specs.Written.{decimalIn, writtenPercentage, setting, writtenPoint, writtenId, writtenScroll, regionLines}
@@ -23,6 +24,8 @@ use Rattle.format.specs.Writable.{atMost100, regionTest1, regionTest2, regionTe
 use Rattle.format.specs.declared.regions.Point.{Point}
 use Rattle.format.specs.declared.regions.Scroll.{Scroll}
 use Rattle.format.specs.declared.regions.Scroll.the-variants as Scroll
+use Rattle.format.specs.declared.regions.RegionChange.{RegionChange}
+use Rattle.format.specs.declared.regions.RegionChange.the-variants as RegionChange
 use Rattle.laws.proofs.Tests.{by-test, and-left, and-right, absent, absent-append}
 use Rattle.laws.proofs.Tokens.{inside as black, first-at}
 use Rattle.laws.proofs.Standing.{All}
@@ -156,84 +159,72 @@ point-read p h =
     let found : has comma both ≡ true = first-at comma both ∙ rw front (lt-ltb (length x) (length both) more) in
     rw (found, front, after-first comma y x a, percentage-read (p .x) (h .x), percentage-read (p .y) (h .y))
 
--- one token: its name and its value are taken
-module _ (p : ℕ) (r : RegionValues) where
-  taken :
+-- one token: what it changes, by its name and its value
+module _ (p : ℕ) where
+  changes :
       (name value : List ℕ)
       → Name name
       → isEmpty value ≡ false
-      → regionSetting (record { place = p; bytes = name ++ colon ∷ value }) r
-      ≡ namedRegion name (record { place = p + suc (length name); bytes = value }) r
-  unfolding regionSetting
-  taken name value n f =
+      → regionChange (record { place = p; bytes = name ++ colon ∷ value }) ≡ regionNamed name value
+  unfolding regionChange
+  changes name value n f =
       let t : Part = record { place = p; bytes = name ++ colon ∷ value } in
       rw (setting-name t name value (n .whole) refl, setting-value t name value (n .whole) refl, n .full, f)
 
-  pub id-read :
-      (id : List ℕ)
-      → isEmpty id ≡ false
-      → regionSetting (record { place = p; bytes = ascii "id" ++ colon ∷ id }) r ≡ takenRegion (setId (record { place = p + 3; bytes = id }) r)
-  unfolding namedRegion same
-  id-read id f = taken (ascii "id") id id-name f
+  id-read : (id : List ℕ) → isEmpty id ≡ false → regionChange (record { place = p; bytes = ascii "id" ++ colon ∷ id }) ≡ RegionChange.Id
+  unfolding regionNamed same
+  id-read id f = changes (ascii "id") id id-name f
 
-  pub width-read :
+  width-read :
       (m : ℕ)
       → m ≤ 100_000_000
-      → regionSetting (record { place = p; bytes = ascii "width" ++ colon ∷ writtenPercentage m }) r ≡ takenRegion (setWidth (some m) r)
-  unfolding namedRegion same
-  width-read m h = taken (ascii "width") (writtenPercentage m) width-name (writtenPercentage-some m) ∙ rw (percentage-read m h)
+      → regionChange (record { place = p; bytes = ascii "width" ++ colon ∷ writtenPercentage m }) ≡ RegionChange.Width m
+  unfolding regionNamed same widthChange
+  width-read m h = changes (ascii "width") (writtenPercentage m) width-name (writtenPercentage-some m) ∙ rw (percentage-read m h)
 
-  pub lines-read :
+  lines-read :
       (n : ℕ)
       → n ≤ 999_999
-      → regionSetting (record { place = p; bytes = ascii "lines" ++ colon ∷ decimalIn 1 n }) r ≡ setLines (some n) r
-  unfolding namedRegion same
-  lines-read n h = taken (ascii "lines") (decimalIn 1 n) lines-name (count-value n .full) ∙ rw (count-read n h)
+      → regionChange (record { place = p; bytes = ascii "lines" ++ colon ∷ decimalIn 1 n }) ≡ RegionChange.Lines n
+  unfolding regionNamed same linesChange
+  lines-read n h =
+      changes (ascii "lines") (decimalIn 1 n) lines-name (count-value n .full) ∙ rw (count-read n h, le-ltb maxLine n h)
 
-  pub anchor-read :
+  anchor-read :
       (at : Point)
       → Percents at
-      → regionSetting (record { place = p; bytes = ascii "regionanchor" ++ colon ∷ writtenPoint at }) r ≡ takenRegion (setAnchor (some at) r)
-  unfolding namedRegion same
-  anchor-read at h = taken (ascii "regionanchor") (writtenPoint at) anchor-name (point-value at .full) ∙ rw (point-read at h)
+      → regionChange (record { place = p; bytes = ascii "regionanchor" ++ colon ∷ writtenPoint at }) ≡ RegionChange.Anchor at
+  unfolding regionNamed same anchorChange
+  anchor-read at h = changes (ascii "regionanchor") (writtenPoint at) anchor-name (point-value at .full) ∙ rw (point-read at h)
 
-  pub viewport-read :
+  viewport-read :
       (at : Point)
       → Percents at
-      → regionSetting (record { place = p; bytes = ascii "viewportanchor" ++ colon ∷ writtenPoint at }) r ≡ takenRegion (setViewport (some at) r)
-  unfolding namedRegion same
-  viewport-read at h = taken (ascii "viewportanchor") (writtenPoint at) viewport-name (point-value at .full) ∙ rw (point-read at h)
+      → regionChange (record { place = p; bytes = ascii "viewportanchor" ++ colon ∷ writtenPoint at }) ≡ RegionChange.Viewport at
+  unfolding regionNamed same viewportChange
+  viewport-read at h = changes (ascii "viewportanchor") (writtenPoint at) viewport-name (point-value at .full) ∙ rw (point-read at h)
 
-  pub scroll-read : regionSetting (record { place = p; bytes = ascii "scroll" ++ colon ∷ ascii "up" }) r ≡ takenRegion (setScroll r)
-  unfolding namedRegion same
-  scroll-read = taken (ascii "scroll") (ascii "up") scroll-name (up-value .full)
-
--- a count within its limit is kept
-pub lines-within :
-    (r : RegionValues) (n : ℕ)
-    → n ≤ 999_999
-    → setLines (some n) r
-    ≡ takenRegion (record { id = r .id; width = r .width; lines = n; anchor = r .anchor; viewport = r .viewport; scroll = r .scroll })
-unfolding setLines
-lines-within r n h = rw (le-ltb maxLine n h)
+  scroll-read : regionChange (record { place = p; bytes = ascii "scroll" ++ colon ∷ ascii "up" }) ≡ RegionChange.Scroll
+  unfolding regionNamed same
+  scroll-read = changes (ascii "scroll") (ascii "up") scroll-name (up-value .full)
 
 -- contents of a region that can be written
 pub record Regional (c : RegionContents) : Type 0 where
   pub dark : all black (c .id) ≡ true
   pub quiet : holdsArrow (c .id) ≡ false
-  pub width : c .width ≤ 100_000_000
-  pub lines : c .lines ≤ 999_999
-  pub anchor : Percents (c .anchor)
-  pub viewport : Percents (c .viewport)
+  pub width : c .settings .width ≤ 100_000_000
+  pub lines : c .settings .lines ≤ 999_999
+  pub anchor : Percents (c .settings .anchor)
+  pub viewport : Percents (c .settings .viewport)
 
 -- the lines after `REGION`: the identifier's, if any, and the others
 unfoldable pub laterLines : RegionContents → List (List ℕ)
 laterLines c =
-    (ascii "width" ++ colon ∷ writtenPercentage (c .width))
-    ∷ (ascii "lines" ++ colon ∷ decimalIn 1 (c .lines))
-    ∷ (ascii "regionanchor" ++ colon ∷ writtenPoint (c .anchor))
-    ∷ (ascii "viewportanchor" ++ colon ∷ writtenPoint (c .viewport))
-    ∷ writtenScroll (c .scroll)
+    (ascii "width" ++ colon ∷ writtenPercentage (c .settings .width))
+    ∷ (ascii "lines" ++ colon ∷ decimalIn 1 (c .settings .lines))
+    ∷ (ascii "regionanchor" ++ colon ∷ writtenPoint (c .settings .anchor))
+    ∷ (ascii "viewportanchor" ++ colon ∷ writtenPoint (c .settings .viewport))
+    ∷ writtenScroll (c .settings .scroll)
 
 abbrev pub settingLines : RegionContents → List (List ℕ)
 settingLines c = writtenId (c .id) ++ laterLines c
@@ -246,7 +237,8 @@ region-lines c = simp append-assoc
 words-later : (c : RegionContents) → All Word (laterLines c)
 unfolding laterLines writtenScroll setting
 words-later c =
-    (width-word (c .width), (lines-word (c .lines), (anchor-word (c .anchor), (viewport-word (c .viewport), words-scroll (c .scroll)))))
+    let r = c .settings in
+    (width-word (r .width), (lines-word (r .lines), (anchor-word (r .anchor), (viewport-word (r .viewport), words-scroll (r .scroll)))))
   where
     words-scroll : (s : Scroll) → All Word (writtenScroll s)
     words-scroll Scroll.None = tt
@@ -282,57 +274,64 @@ regionLines-block c h =
     let ls = settingLines c in
     rw (region-lines c) (region-block ls (quiet-tokens ls (words-tokens ls w) (words-quiet ls w)))
 
--- one line after the other
-line-taken :
-    (p : ℕ) (l : List ℕ) (ls : List (List ℕ)) (r after : RegionValues)
-    → regionSetting (record { place = p; bytes = l }) r ≡ takenRegion after
-    → regionFrom (takenRegion r) (partsAt p (l ∷ ls)) ≡ regionFrom (takenRegion after) (partsAt (p + suc (length l)) ls)
-unfolding partsAt regionFrom
-line-taken p l ls r after e = ap (λ t. regionFrom t (partsAt (p + suc (length l)) ls)) e
+-- one line after the other, each by what it changes
+abbrev changed : Part → RegionValues → RegionChange → Flagged RegionValues
+changed t r c =
+    record { value = record { id = idAfter c (valueOf t) (r .id); settings = regionAfter c (r .settings) }; over = overRegion c }
 
--- the values of a region's contents, with the part that is its identifier
-abbrev valuesOf : RegionContents → Part → RegionValues
-valuesOf c id =
-    record { id = id; width = c .width; lines = c .lines; anchor = c .anchor; viewport = c .viewport; scroll = c .scroll }
+line-taken :
+    (p : ℕ) (l : List ℕ) (ls : List (List ℕ)) (r : RegionValues) (c : RegionChange)
+    → let t : Part = record { place = p; bytes = l } in
+    regionChange t ≡ c
+    → folded regionSetting (unflagged r) (partsAt p (l ∷ ls)) ≡ folded regionSetting (changed t r c) (partsAt (p + suc (length l)) ls)
+unfolding partsAt folded regionSetting
+line-taken p l ls r c e =
+    ap (λ c. folded regionSetting (changed (record { place = p; bytes = l }) r c) (partsAt (p + suc (length l)) ls)) e
 
 scroll-last :
     (p : ℕ) (s : Scroll) (r : RegionValues)
-    → r .scroll ≡ Scroll.None
-    → regionFrom (takenRegion r) (partsAt p (writtenScroll s))
-    ≡ takenRegion (record { id = r .id; width = r .width; lines = r .lines; anchor = r .anchor; viewport = r .viewport; scroll = s })
-unfolding writtenScroll setting partsAt regionFrom setScroll
+    → r .settings .scroll ≡ Scroll.None
+    → let q = r .settings in
+    folded regionSetting (unflagged r) (partsAt p (writtenScroll s))
+    ≡ unflagged
+    (record { id = r .id; settings = record { width = q .width; lines = q .lines; anchor = q .anchor; viewport = q .viewport; scroll = s } })
+unfolding writtenScroll setting partsAt folded
 scroll-last p Scroll.None r e = rw (sym e)
-scroll-last p Scroll.Up r e = line-taken p (ascii "scroll" ++ colon ∷ ascii "up") [] r (setScroll r) (scroll-read p r)
+scroll-last p Scroll.Up r e = line-taken p (ascii "scroll" ++ colon ∷ ascii "up") [] r RegionChange.Scroll (scroll-read p)
 
 later-read :
     (p : ℕ) (id : Part) (c : RegionContents)
     → Regional c
-    → regionFrom (takenRegion (setId id openingRegion)) (partsAt p (laterLines c)) ≡ takenRegion (valuesOf c id)
-unfolding laterLines setId setWidth setAnchor setViewport
+    → folded regionSetting (unflagged (record { id = id; settings = openingRegion })) (partsAt p (laterLines c))
+    ≡ unflagged (record { id = id; settings = c .settings })
+unfolding laterLines
 later-read p id c h =
-    line-taken _ _ _ _ _ (width-read p _ (c .width) (h .width))
-    ∙ line-taken _ _ _ _ _ (lines-read _ _ (c .lines) (h .lines) ∙ lines-within _ (c .lines) (h .lines))
-    ∙ line-taken _ _ _ _ _ (anchor-read _ _ (c .anchor) (h .anchor))
-    ∙ line-taken _ _ _ _ _ (viewport-read _ _ (c .viewport) (h .viewport))
-    ∙ scroll-last _ (c .scroll) _ refl
+    line-taken _ _ _ _ _ (width-read p (c .settings .width) (h .width))
+    ∙ line-taken _ _ _ _ _ (lines-read _ (c .settings .lines) (h .lines))
+    ∙ line-taken _ _ _ _ _ (anchor-read _ (c .settings .anchor) (h .anchor))
+    ∙ line-taken _ _ _ _ _ (viewport-read _ (c .settings .viewport) (h .viewport))
+    ∙ scroll-last _ (c .settings .scroll) _ refl
 
 -- what reading these lines gives
-pub record RegionRead (c : RegionContents) (t : TakenRegion) : Type 0 where
+pub record RegionRead (c : RegionContents) (t : Flagged RegionValues) : Type 0 where
   pub over : t .over ≡ false
-  pub values : regionContents (t .region) ≡ c
+  pub values : regionContents (t .value) ≡ c
 
-region-is : (c : RegionContents) (id : Part) → id .bytes ≡ c .id → RegionRead c (takenRegion (valuesOf c id))
+region-is :
+    (c : RegionContents) (id : Part) → id .bytes ≡ c .id → RegionRead c (unflagged (record { id = id; settings = c .settings }))
 unfolding regionContents
 region-is c id e = record { over = refl; values = rw e }
 
-from-opening : (p : ℕ) (c : RegionContents) → Regional c → RegionRead c (regionFrom (takenRegion openingRegion) (partsAt p (settingLines c)))
-unfolding setId
+from-opening :
+    (p : ℕ) (c : RegionContents)
+    → Regional c
+    → RegionRead c (folded regionSetting (unflagged openingValues) (partsAt p (settingLines c)))
 from-opening p c h =
     by-test (isEmpty (c .id))
     (λ y. rw (id-none (c .id) y, later-read p emptyPart c h) (region-is c emptyPart (empty-is (c .id) y)))
-    (λ n. let id : Part = record { place = p + 3; bytes = c .id } in
-    rw (id-one (c .id) n, line-taken p _ (laterLines c) openingRegion _ (id-read p openingRegion (c .id) n), later-read _ id c h)
-    (region-is c id refl))
+    (λ n. let t : Part = record { place = p; bytes = ascii "id" ++ colon ∷ c .id } in
+    rw (id-one (c .id) n, line-taken p _ (laterLines c) openingValues _ (id-read p (c .id) n), later-read _ (valueOf t) c h)
+    (region-is c (valueOf t) (ap (λ x. x .bytes) (setting-value t (ascii "id") (c .id) (id-name .whole) refl))))
 
 pub settings-read :
     (p : ℕ) (c : RegionContents) → Regional c → RegionRead c (regionSettings (record { place = p; bytes = join (settingLines c) }))
@@ -360,9 +359,9 @@ regionLines-mean k p c h =
     let r = settings-read (p + 7) c h in
     let t = regionSettings (record { place = p + 7; bytes = join (settingLines c) }) in
     record {
-      values = t .region;
+      values = t .value;
       is = rw (region-lines c) (means-region k p (writtenId (c .id)) _ _ (words-quiet (settingLines c) (words-region c h)))
-          ∙ ap (region (t .region)) (r .over);
+          ∙ ap (region (t .value)) (r .over);
       same = r .values;
     }
 
@@ -377,12 +376,13 @@ region-passes s w e =
     let r = regionOfRow s w in
     let ts = none-fails 1 (regionTest1 s w ∷ regionTests r) e in
     let id = r .id in
+    let q = r .settings in
     let two : all black id && not (holdsArrow id) ≡ true = ts .1 .0 in
-    let width = atMost100 (r .width) in
-    let ax = atMost100 (r .anchor .x) in
-    let ay = atMost100 (r .anchor .y) in
-    let vx = atMost100 (r .viewport .x) in
-    let vy = atMost100 (r .viewport .y) in
+    let width = atMost100 (q .width) in
+    let ax = atMost100 (q .anchor .x) in
+    let ay = atMost100 (q .anchor .y) in
+    let vx = atMost100 (q .viewport .x) in
+    let vy = atMost100 (q .viewport .y) in
     let three : width && (ax && (ay && (vx && vy))) ≡ true = ts .1 .1 .0 in
     let from-ax = and-right width (ax && (ay && (vx && vy))) three in
     let from-ay = and-right ax (ay && (vx && vy)) from-ax in
@@ -390,8 +390,8 @@ region-passes s w e =
     record {
       dark = and-left (all black id) (not (holdsArrow id)) two;
       quiet = not-true (holdsArrow id) (and-right (all black id) (not (holdsArrow id)) two);
-      width = up-to-100 (r .width) (and-left width (ax && (ay && (vx && vy))) three);
-      lines = leb-true (r .lines) maxLine (ts .1 .1 .1 .0);
-      anchor = record { x = up-to-100 (r .anchor .x) (and-left ax (ay && (vx && vy)) from-ax); y = up-to-100 (r .anchor .y) (and-left ay (vx && vy) from-ay) };
-      viewport = record { x = up-to-100 (r .viewport .x) (and-left vx vy from-vx); y = up-to-100 (r .viewport .y) (and-right vx vy from-vx) };
+      width = up-to-100 (q .width) (and-left width (ax && (ay && (vx && vy))) three);
+      lines = leb-true (q .lines) maxLine (ts .1 .1 .1 .0);
+      anchor = record { x = up-to-100 (q .anchor .x) (and-left ax (ay && (vx && vy)) from-ax); y = up-to-100 (q .anchor .y) (and-left ay (vx && vy) from-ay) };
+      viewport = record { x = up-to-100 (q .viewport .x) (and-left vx vy from-vx); y = up-to-100 (q .viewport .y) (and-right vx vy from-vx) };
     }

@@ -51,16 +51,17 @@ pub fn cue_row(entry: CueEntry) -> CueRow
 pub fn region_row(region: Region) -> RegionRow
     ensures { λ r. ⌜ r ≡ regionWords region ⌝ }
 {
-    let scroll = region.scroll;
+    let settings = region.settings;
+    let scroll = settings.scroll;
     [
         region.id.from as u64,
         region.id.to as u64,
-        region.width,
-        region.lines,
-        region.anchor.x,
-        region.anchor.y,
-        region.viewport.x,
-        region.viewport.y,
+        settings.width,
+        settings.lines,
+        settings.anchor.x,
+        settings.anchor.y,
+        settings.viewport.x,
+        settings.viewport.y,
         words::scroll(scroll),
     ]
 }

@@ -2,6 +2,7 @@
 use super::choices;
 use format::regions::Point;
 use format::regions::Region;
+use format::regions::RegionSettings;
 use format::rows::*;
 use format::settings::Span;
 ghost use mathlib.Core.Path.{_≡_};
@@ -22,17 +23,19 @@ pub fn entry(row: RegionRow) -> Region
 {
     Region {
         id: id(row),
-        width: row[REGION_WIDTH],
-        lines: row[REGION_LINES],
-        anchor: Point {
-            x: row[REGION_ANCHOR_X],
-            y: row[REGION_ANCHOR_Y],
+        settings: RegionSettings {
+            width: row[REGION_WIDTH],
+            lines: row[REGION_LINES],
+            anchor: Point {
+                x: row[REGION_ANCHOR_X],
+                y: row[REGION_ANCHOR_Y],
+            },
+            viewport: Point {
+                x: row[REGION_VIEWPORT_X],
+                y: row[REGION_VIEWPORT_Y],
+            },
+            scroll: choices::scroll(row[REGION_SCROLL]),
         },
-        viewport: Point {
-            x: row[REGION_VIEWPORT_X],
-            y: row[REGION_VIEWPORT_Y],
-        },
-        scroll: choices::scroll(row[REGION_SCROLL]),
     }
 }
 

@@ -3,6 +3,7 @@
 mod texts;
 
 use format::regions::Region;
+use format::regions::RegionSettings;
 use format::rows::CueRow;
 use format::rows::RegionIndex;
 use format::rows::RegionRow;
@@ -64,12 +65,12 @@ fn at_most_100(n: u64) -> bool
 }
 
 // Do a region's percentages lie in 0 to 100.
-fn percentages_fit(region: Region) -> bool
-    ensures { λ r. ⌜ r ≡ regionTest3 (region .width) (region .anchor) (region .viewport) ⌝ }
+fn percentages_fit(settings: RegionSettings) -> bool
+    ensures { λ r. ⌜ r ≡ regionTest3 (settings .width) (settings .anchor) (settings .viewport) ⌝ }
 {
-    let anchor = region.anchor;
-    let viewport = region.viewport;
-    if !at_most_100(region.width) {
+    let anchor = settings.anchor;
+    let viewport = settings.viewport;
+    if !at_most_100(settings.width) {
         return false;
     }
     if !at_most_100(anchor.x) {
@@ -89,13 +90,14 @@ fn region_values_test(text: &[u8], region: Region) -> usize
     ensures { λ r. ⌜ r ≡ testNumber (firstFailing 2 (regionTests (regionOfEntry (now (text .entry)) region))) ⌝ }
 {
     let id = region.id;
+    let settings = region.settings;
     if !texts::is_region_identifier(part(text, id.from, id.to)) {
         return 2;
     }
-    if !percentages_fit(region) {
+    if !percentages_fit(settings) {
         return 3;
     }
-    if 999_999 < region.lines {
+    if 999_999 < settings.lines {
         return 4;
     }
     0

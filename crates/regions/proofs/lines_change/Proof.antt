@@ -1,5 +1,6 @@
 -- `regions::lines_change` meets its contract.
 use mathlib.Core.Path.{sym, _∙_}
+use Rattle.regions.proofs.ChangeLaws.{lines-is}
 use borrow.Author.Needs.{needs}
 use Rattle.regions.proofs.lines_change.Statement.{statement}
 use Rattle.regions.proofs.lines_change.Tie as tie
@@ -17,13 +18,13 @@ enum-known-n : tie.Need-enum-known-n
 enum-known-n c = search needs
 
 returns : tie.Need-returns
-returns c = rw (sym (c .before .before .read-line-count .ensures) ∙ c .enum-told .given .1)
+returns c = rw (lines-is, sym (c .before .before .read-line-count .ensures) ∙ c .enum-told .given .1)
 
 returns-2 : tie.Need-returns-2
-returns-2 c = rw (sym (c .before .before .read-line-count .ensures) ∙ c .enum-told2 .given .1)
+returns-2 c = rw (lines-is, sym (c .before .before .read-line-count .ensures) ∙ c .enum-told2 .given .1)
 
 returns-3 : tie.Need-returns-3
-returns-3 c = rw (sym (c .before .before .before .read-line-count .ensures) ∙ c .before .n .given .1)
+returns-3 c = rw (lines-is, sym (c .before .before .before .read-line-count .ensures) ∙ c .before .n .given .1)
 
 pub lines-change-spec : {M : Type 1} → statement M
 lines-change-spec =

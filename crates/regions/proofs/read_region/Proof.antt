@@ -6,17 +6,20 @@ use native.Mathlib.Omega.{arith}
 use lib.ListN.{length, drop}
 use lib.Seq.{length-take-le}
 use borrow.Author.Needs.{needs}
-use Rattle.format.specs.Tokens.{tokens}
-use Rattle.format.specs.RegionSettings.{takenRegion, openingRegion, regionSettings}
+use Rattle.laws.proofs.Changes.{stepped}
+use Rattle.format.specs.Texts.{isEmpty}
+use Rattle.format.specs.CueSettings.{spanIs}
+use Rattle.format.specs.Tokens.{unflagged, tokens}
+use Rattle.format.specs.RegionSettings.{openingValues, regionSettings}
 use Rattle.values.specs.Tokens.{TokenHere, tokenFrom}
-use Rattle.regions.specs.Changes.{foldIs, takenIs}
+use Rattle.regions.specs.Changes.{stepIs, takenIs}
 use Rattle.regions.proofs.ChangeLaws.{fold-is}
 use Rattle.regions.proofs.read_region.Statement.{statement}
 use Rattle.regions.proofs.read_region.Tie as tie
 
 abbrev Inv-loop : tie.InvT-loop
 Inv-loop s from i₀ taken₀ i taken =
-    (i ≤ length s) × (foldIs taken (tokens i (drop i s)) ≡ takenIs (regionSettings (tokenFrom s from)))
+    (i ≤ length s) × (stepped stepIs taken (tokens i (drop i s)) ≡ takenIs (regionSettings (tokenFrom s from)))
 
 abbrev μ-loop : tie.MeasureT-loop
 μ-loop s from i₀ taken₀ i taken = length s - i
@@ -25,11 +28,11 @@ opening-requires : tie.Need-opening-requires Inv-loop μ-loop
 opening-requires c κs = search needs
 
 loop-holds : tie.Need-loop-holds Inv-loop μ-loop
-unfolding regionSettings
+unfolding regionSettings spanIs isEmpty
 loop-holds c =
     let args = c .before .before .args in
     let whole = tokens (args .from) (drop (args .from) (args .s .now)) in
-    (omega arith, rw (c .opening .ensures) (fold-is (takenRegion openingRegion) whole))
+    (omega arith, rw (c .opening .ensures) (fold-is (unflagged openingValues) whole))
 
 next-token-requires : tie.Need-next-token-requires Inv-loop μ-loop
 next-token-requires c κs = omega arith
@@ -41,13 +44,13 @@ enum-told : tie.Need-enum-told Inv-loop μ-loop
 enum-told c = search needs
 
 returns : tie.Need-returns Inv-loop μ-loop
-unfolding foldIs
+unfolding stepped
 returns c =
     let found = c .before .before in
     let at = found .before in
     let s = at .before .before .before .args .s .now in
     let none : tokens (at .loop .i) (drop (at .loop .i) s) ≡ [] = rw (c .enum-told .given .1) at (found .next-token .ensures) in
-    sym (ap (foldIs (at .loop .taken)) none) ∙ at .loop .inv .1
+    sym (ap (stepped stepIs (at .loop .taken)) none) ∙ at .loop .inv .1
 
 -- the token that was found
 token :
@@ -72,12 +75,12 @@ loop-less : tie.Need-loop-less Inv-loop μ-loop
 loop-less c = let t = token (c .before .before .before) in omega (arith, t .moves, t .inside)
 
 loop-again : tie.Need-loop-again Inv-loop μ-loop
-unfolding foldIs
+unfolding stepped
 loop-again c =
     let found = c .before .before .before in
     let at = found .before .before .before in
     let t = token found in
-    (t .inside, rw (c .step .ensures) (sym (ap (foldIs (at .loop .taken)) (t .first)) ∙ at .loop .inv .1))
+    (t .inside, rw (c .step .ensures) (sym (ap (stepped stepIs (at .loop .taken)) (t .first)) ∙ at .loop .inv .1))
 
 pub read-region-spec : {M : Type 1} → statement M
 read-region-spec =

@@ -1,29 +1,32 @@
 -- `regions::step` meets its contract.
-use mathlib.Core.Path.{_≡_, _∙_}
-use mathlib.Core.Bool.{_||_}
-use mathlib.Core.Logic.{⊎-elim}
-use Rattle.regions.specs.Changes.{isOver}
+use Rattle.format.specs.RegionSettings.{regionChange}
+use Rattle.laws.proofs.Tests.{or-false}
 use borrow.Author.Needs.{needs}
 use Rattle.regions.proofs.step.Statement.{statement}
 use Rattle.regions.proofs.step.Tie as tie
 
-token-change-requires : tie.Need-token-change-requires
-token-change-requires c κs = search needs
+name-end-requires : tie.Need-name-end-requires
+name-end-requires c κs = search needs
 
-is-over-requires : tie.Need-is-over-requires
-is-over-requires c κs = search needs
+enum-told : tie.Need-enum-told
+enum-told c = search needs
 
-apply-requires : tie.Need-apply-requires
-apply-requires c κs = search needs
+enum-known-colon : tie.Need-enum-known-colon
+enum-known-colon c = search needs
+
+take-setting-requires : tie.Need-take-setting-requires
+take-setting-requires c κs = rw (c .before .colon .given .1) at (c .before .before .before .name-end .ensures)
 
 returns : tie.Need-returns
+unfolding regionChange
 returns c =
-    let made = c .before .before in
-    let change = made .before in
-    let args = change .before .before .args in
-    let over : made .if1 .over ≡ args .taken .over || isOver (change .token-change .result) =
-    ⊎-elim (λ w. rw (w .0 .taken) (w .1 ∙ w .0 .taken)) (λ w. rw (w .0 .left) (w .2 ∙ w .1 .ensures)) (made .if1 .came) in
-    rw (c .apply .ensures, over, change .token-change .ensures)
+    let over = c .before .before .before .before .args .taken .over in
+    rw (rw (c .enum-told .given .1) at (c .before .before .name-end .ensures), or-false over)
+
+returns-2 : tie.Need-returns-2
+returns-2 c = search needs
 
 pub step-spec : {M : Type 1} → statement M
-step-spec = tie.close (tie.spec token-change-requires is-over-requires apply-requires returns)
+step-spec =
+    tie.close
+    (tie.spec name-end-requires enum-told enum-known-colon take-setting-requires returns returns-2)

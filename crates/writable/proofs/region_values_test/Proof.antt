@@ -15,7 +15,7 @@ use Rattle.writable.proofs.texts.is_region_identifier.Reads as is-regio
 -- test 2, as the code asks it
 second-is :
     (c : tie.After-is-region-identifier)
-    → let a = c .before .before .before .before .args in
+    → let a = c .before .before .before .before .before .args in
     c .is-region-identifier .result ≡ regionTest2 (regionOfEntry (a .text .now) (a .region) .id)
 unfolding regionTest2 regionOfEntry
 second-is c = rw (← c .before .part .ensures) (c .is-region-identifier .ensures)
@@ -23,8 +23,8 @@ second-is c = rw (← c .before .part .ensures) (c .is-region-identifier .ensure
 -- test 4 decides where the others hold
 last-decides :
     (c : tie.Else2)
-    → let a = c .before .before .before .before .before .before .before .args in
-    firstFailing 2 (regionTests (regionOfEntry (a .text .now) (a .region))) ≡ firstFailing 4 (regionTest4 (a .region .lines) ∷ [])
+    → let a = c .before .before .before .before .before .before .before .before .args in
+    firstFailing 2 (regionTests (regionOfEntry (a .text .now) (a .region))) ≡ firstFailing 4 (regionTest4 (a .region .settings .lines) ∷ [])
 unfolding firstFailing regionTests regionOfEntry
 last-decides c =
     let one = c .before .before in

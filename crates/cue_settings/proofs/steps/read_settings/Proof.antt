@@ -6,18 +6,19 @@ use native.Mathlib.Omega.{arith}
 use lib.ListN.{length, drop}
 use lib.Seq.{length-take-le}
 use borrow.Author.Needs.{needs}
+use Rattle.laws.proofs.Changes.{stepped}
 use Rattle.format.specs.Texts.{emptyPart, isEmpty}
 use Rattle.format.specs.Tokens.{tokens, unflagged}
 use Rattle.format.specs.CueSettings.{openingSettings, cueSettings, spanIs}
 use Rattle.values.specs.Tokens.{TokenHere}
-use Rattle.cue_settings.specs.Steps.{foldIs, takenIs}
+use Rattle.cue_settings.specs.Steps.{stepIs, takenIs}
 use Rattle.cue_settings.proofs.SettingLaws.{fold-is}
 use Rattle.cue_settings.proofs.steps.read_settings.Statement.{statement}
 use Rattle.cue_settings.proofs.steps.read_settings.Tie as tie
 
 abbrev Inv-loop : tie.InvT-loop
 Inv-loop s from i₀ taken₀ i taken =
-    (i ≤ length s) × (foldIs taken (tokens i (drop i s)) ≡ takenIs (cueSettings (record { place = from; bytes = drop from s })))
+    (i ≤ length s) × (stepped stepIs taken (tokens i (drop i s)) ≡ takenIs (cueSettings (record { place = from; bytes = drop from s })))
 
 abbrev μ-loop : tie.MeasureT-loop
 μ-loop s from i₀ taken₀ i taken = length s - i
@@ -42,13 +43,13 @@ enum-told : tie.Need-enum-told Inv-loop μ-loop
 enum-told c = search needs
 
 returns : tie.Need-returns Inv-loop μ-loop
-unfolding foldIs
+unfolding stepped
 returns c =
     let found = c .before .before in
     let at = found .before in
     let s = at .before .before .before .args .s .now in
     let none : tokens (at .loop .i) (drop (at .loop .i) s) ≡ [] = rw (c .enum-told .given .1) at (found .next-token .ensures) in
-    sym (ap (foldIs (at .loop .taken)) none) ∙ at .loop .inv .1
+    sym (ap (stepped stepIs (at .loop .taken)) none) ∙ at .loop .inv .1
 
 -- the token that was found
 token :
@@ -73,12 +74,12 @@ loop-less : tie.Need-loop-less Inv-loop μ-loop
 loop-less c = let t = token (c .before .before .before) in omega (arith, t .moves, t .inside)
 
 loop-again : tie.Need-loop-again Inv-loop μ-loop
-unfolding foldIs
+unfolding stepped
 loop-again c =
     let found = c .before .before .before in
     let at = found .before .before .before in
     let t = token found in
-    (t .inside, rw (c .step .ensures) (sym (ap (foldIs (at .loop .taken)) (t .first)) ∙ at .loop .inv .1))
+    (t .inside, rw (c .step .ensures) (sym (ap (stepped stepIs (at .loop .taken)) (t .first)) ∙ at .loop .inv .1))
 
 pub read-settings-spec : {M : Type 1} → statement M
 read-settings-spec =
