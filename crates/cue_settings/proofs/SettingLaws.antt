@@ -3,13 +3,13 @@ use Prim.Native.Nat.{ℕ}
 use mathlib.Core.Path.{_≡_, refl, sym, ap}
 use mathlib.Core.Bool.{false, true, cond, _||_}
 use mathlib.Core.List.{List, [], _∷_}
-use mathlib.Core.Option.{Option, none, some}
+use mathlib.Core.Option.{Option, none, some, Option·elim}
 use Rattle.format.specs.Bytes.{ascii, percent}
 use Rattle.format.specs.Texts.{Part, isEmpty, same, endsWith}
 use Rattle.format.specs.Numbers.{percentage, LineNumber, lineNumber, overLine, isNegative, millionths}
 use Rattle.format.specs.Tokens.{valueOf, Flagged, folded}
-use Rattle.format.specs.CueSettings.{CueSettings, settingsAfter, isOver, direction, linePercentage, lineCounted, lineAligned, lineChange}
-use Rattle.format.specs.CueSettings.{positionChange, positionAligned, sizeChange, alignment, named, cueChange, changed, cueSetting, spanIs}
+use Rattle.format.specs.CueSettings.{CueSettings, settingsAfter, isOver, direction, lineAtPercentage, lineCounted, lineAligned, lineChange}
+use Rattle.format.specs.CueSettings.{positionChange, positionAligned, alignment, named, cueChange, changed, cueSetting, spanIs}
 use Rattle.format.specs.declared.settings.Settings.{Settings}
 use Rattle.format.specs.declared.settings.Change.{Change}
 use Rattle.format.specs.declared.settings.Change.the-variants as Change
@@ -34,15 +34,6 @@ use Rattle.setting_words.specs.declared.PositionAligned.the-variants as Positio
 use Rattle.cue_settings.specs.Steps.{stepIs, takenIs}
 
 -- a change by what the code was told
-abbrev pub percentageTold : Percentage → LineAlign → Change
-percentageTold Percentage.Bad a = Change.Nothing
-percentageTold (Percentage.Good n) a = Change.Line (record { line = Line.At false n; snap = false; align = a })
-
-pub percentage-told : (o : Option ℕ) (a : LineAlign) → linePercentage o a ≡ percentageTold (percentageIs o) a
-unfolding linePercentage
-percentage-told none a = refl
-percentage-told (some n) a = refl
-
 abbrev pub numberTold : Told → LineAlign → Change
 numberTold Told.Bad a = Change.Nothing
 numberTold Told.Over a = Change.Over
@@ -56,7 +47,7 @@ number-told (some n) a = by-test (overLine n) (λ y. rw y refl) (λ z. rw z refl
 abbrev pub alignedTold : List ℕ → LineAligned → Change
 alignedTold place LineAligned.Bad = Change.Nothing
 alignedTold place (LineAligned.Good a) =
-    cond (endsWith percent place) (linePercentage (percentage place) a) (lineCounted (lineNumber place) a)
+    cond (endsWith percent place) (Option·elim (percentage place) Change.Nothing (lineAtPercentage a)) (lineCounted (lineNumber place) a)
 
 pub aligned-told : (place : List ℕ) (o : Option LineAlign) → lineAligned place o ≡ alignedTold place (lineAlignedIs o)
 unfolding lineAligned
@@ -74,21 +65,12 @@ position-told none a = refl
 position-told (some n) none = refl
 position-told (some n) (some a) = refl
 
-abbrev pub sizeTold : Percentage → Change
-sizeTold Percentage.Bad = Change.Nothing
-sizeTold (Percentage.Good n) = Change.Size n
-
-pub size-told : (o : Option ℕ) → sizeChange o ≡ sizeTold (percentageIs o)
-unfolding sizeChange
-size-told none = refl
-size-told (some n) = refl
-
 abbrev pub nameTold : CueName → List ℕ → Settings → Change
 nameTold CueName.Region x s = Change.Region
 nameTold CueName.Vertical x s = Change.Vertical (direction x (s .vertical))
 nameTold CueName.Line x s = lineChange x (s .line .align)
 nameTold CueName.Position x s = positionChange x (s .position .align)
-nameTold CueName.Size x s = sizeChange (percentage x)
+nameTold CueName.Size x s = Option·elim (percentage x) Change.Nothing Change.Size
 nameTold CueName.Align x s = Change.Align (alignment x (s .align))
 nameTold CueName.Other x s = Change.Nothing
 

@@ -22,12 +22,14 @@ use values::numbers::Percentage;
 use values::tokens::NameEnd;
 use values::tokens::Token;
 ghost use mathlib.Core.Path.{_≡_};
+ghost use mathlib.Core.Option.{Option·elim};
 ghost use Prim.Native.Nat.{_≤_};
 ghost use lib.ListN.{length, drop};
-ghost use Rattle.format.specs.CueSettings.{linePercentage, lineCounted, lineChange, positionChange, sizeChange, named, cueSettings, spanIs};
+ghost use Rattle.format.specs.CueSettings.{lineAtPercentage, lineCounted, lineChange, positionChange, named, cueSettings, spanIs};
 ghost use Rattle.format.specs.Bytes.{percent};
 ghost use Rattle.format.specs.Texts.{endsWith};
 ghost use Rattle.format.specs.Numbers.{percentage, lineNumber};
+ghost use Rattle.format.specs.declared.settings.Change.the-variants as Cases;
 ghost use Rattle.cue_settings.specs.Steps.{stepWith, stepIs, takenIs};
 
 fn ends_with_percent(s: &[u8]) -> bool
@@ -41,7 +43,7 @@ fn ends_with_percent(s: &[u8]) -> bool
 }
 
 fn line_percentage(place: &[u8], align: LineAlign) -> Change
-    ensures { λ r. ⌜ r ≡ linePercentage (percentage (now (place .entry))) align ⌝ }
+    ensures { λ r. ⌜ r ≡ Option·elim (percentage (now (place .entry))) Cases.Nothing (lineAtPercentage align) ⌝ }
 {
     match values::numbers::read_percentage(place) {
         Percentage::Bad => Change::Nothing,
@@ -110,7 +112,7 @@ fn position_change(value: &[u8], current: PositionAlign) -> Change
 }
 
 fn size_change(value: &[u8]) -> Change
-    ensures { λ r. ⌜ r ≡ sizeChange (percentage (now (value .entry))) ⌝ }
+    ensures { λ r. ⌜ r ≡ Option·elim (percentage (now (value .entry))) Cases.Nothing Cases.Size ⌝ }
 {
     match values::numbers::read_percentage(value) {
         Percentage::Bad => Change::Nothing,

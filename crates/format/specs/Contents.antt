@@ -75,9 +75,6 @@ cueOfEntry s e =
 unfoldable pub regionOfEntry : List ℕ → Region → RegionContents
 regionOfEntry s r = record { id = bytesAt s (r .id .from) (r .id .to); settings = r .settings }
 
-unfoldable pub styleOfEntry : List ℕ → Span → List ℕ
-styleOfEntry s t = bytesAt s (t .from) (t .to)
-
 -- the contents of rows over a text, and of whole tables
 abbrev pub cueOfRow : List ℕ → List ℕ → CueContents
 cueOfRow s w = cueOfEntry s (cueEntry w)
@@ -86,7 +83,7 @@ abbrev pub regionOfRow : List ℕ → List ℕ → RegionContents
 regionOfRow s w = regionOfEntry s (regionEntry w)
 
 abbrev pub styleOfRow : List ℕ → List ℕ → List ℕ
-styleOfRow s w = styleOfEntry s (styleEntry w)
+styleOfRow s w = bytesAt s (styleEntry w .from) (styleEntry w .to)
 
 unfoldable pub contentsOfRows : List ℕ → List (List ℕ) → List (List ℕ) → List (List ℕ) → Contents
 contentsOfRows s styles regions cues =

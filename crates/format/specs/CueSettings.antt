@@ -2,7 +2,7 @@
 use Prim.Native.Nat.{ℕ, _+_}
 use mathlib.Core.Bool.{Bool, true, false, cond, not, _||_}
 use mathlib.Core.List.{List, [], _∷_}
-use mathlib.Core.Option.{Option, none, some}
+use mathlib.Core.Option.{Option, none, some, Option·elim}
 use lib.Dec.{eqb}
 use lib.ListN.{length}
 use Rattle.format.specs.Bytes.{ascii, comma, percent}
@@ -86,9 +86,8 @@ lineAlign x a =
     (cond (same (afterFirst comma x) (ascii "end")) (some LineAlign.End) none)))
 
 -- a percentage, which does not snap to lines
-unfoldable pub linePercentage : Option ℕ → LineAlign → Change
-linePercentage none a = Change.Nothing
-linePercentage (some n) a = Change.Line (record { line = Line.At false n; snap = false; align = a })
+unfoldable pub lineAtPercentage : LineAlign → ℕ → Change
+lineAtPercentage a n = Change.Line (record { line = Line.At false n; snap = false; align = a })
 
 -- a line number, which does
 unfoldable pub lineCounted : Option LineNumber → LineAlign → Change
@@ -98,7 +97,7 @@ lineCounted (some n) a =
 
 unfoldable pub lineAligned : List ℕ → Option LineAlign → Change
 lineAligned place none = Change.Nothing
-lineAligned place (some a) = cond (endsWith percent place) (linePercentage (percentage place) a) (lineCounted (lineNumber place) a)
+lineAligned place (some a) = cond (endsWith percent place) (Option·elim (percentage place) Change.Nothing (lineAtPercentage a)) (lineCounted (lineNumber place) a)
 
 unfoldable pub lineChange : List ℕ → LineAlign → Change
 lineChange x a = lineAligned (beforeFirst comma x) (lineAlign x a)
@@ -119,11 +118,6 @@ positionAligned (some n) (some a) = Change.Position (record { position = Positio
 unfoldable pub positionChange : List ℕ → PositionAlign → Change
 positionChange x a = positionAligned (percentage (beforeFirst comma x)) (positionAlign x a)
 
--- `size:x`
-unfoldable pub sizeChange : Option ℕ → Change
-sizeChange none = Change.Nothing
-sizeChange (some n) = Change.Size n
-
 -- `align:x`: the alignment that is set stays where x names none
 unfoldable pub alignment : List ℕ → Align → Align
 alignment x a =
@@ -139,7 +133,7 @@ named name x s =
     (cond (same name (ascii "vertical")) (Change.Vertical (direction x (s .vertical)))
     (cond (same name (ascii "line")) (lineChange x (s .line .align))
     (cond (same name (ascii "position")) (positionChange x (s .position .align))
-    (cond (same name (ascii "size")) (sizeChange (percentage x))
+    (cond (same name (ascii "size")) (Option·elim (percentage x) Change.Nothing Change.Size)
     (cond (same name (ascii "align")) (Change.Align (alignment x (s .align))) Change.Nothing)))))
 
 -- one token: nothing where its first colon is missing, first or last

@@ -47,12 +47,8 @@ isWord word l = startsWith word l && all white (drop (length word) l)
 -- … but only while no cue has succeeded"
 unfoldable pub definition : Bool → Line → List Line → Item
 definition seen first ls =
-    cond
-    seen
-    nothing
-    (cond
-    (isWord (ascii "STYLE") (first .bytes))
-    (style (joined ls))
+    cond seen nothing
+    (cond (isWord (ascii "STYLE") (first .bytes)) (style (joined ls))
     (cond (isWord (ascii "REGION") (first .bytes)) (regionOf (regionSettings (joined ls))) nothing))
 
 -- a block, given whether a cue has succeeded before it
@@ -60,9 +56,7 @@ unfoldable pub meaning : Bool → List Line → Item
 meaning seen [] = nothing
 meaning seen (first ∷ []) = cond (holdsArrow (first .bytes)) (cueOf emptyPart [] (timingLine (linePart first))) nothing
 meaning seen (first ∷ (second ∷ ls)) =
-    cond
-    (holdsArrow (first .bytes))
-    (cueOf emptyPart (second ∷ ls) (timingLine (linePart first)))
+    cond (holdsArrow (first .bytes)) (cueOf emptyPart (second ∷ ls) (timingLine (linePart first)))
     (cond (holdsArrow (second .bytes)) (cueOf (linePart first) ls (timingLine (linePart second))) (definition seen first (second ∷ ls)))
 
 unfoldable pub isCue : Item → Bool
@@ -84,9 +78,6 @@ pub record Lists : Type 0 where
   pub regions : List RegionValues
   pub styles : List Part
 
-abbrev pub noLists : Lists
-noLists = record { cues = []; regions = []; styles = [] }
-
 -- an item before lists
 unfoldable pub into : Item → Lists → Lists
 into nothing l = l
@@ -95,7 +86,7 @@ into (style text) l = record { cues = l .cues; regions = l .regions; styles = te
 into (region r over) l = record { cues = l .cues; regions = r ∷ l .regions; styles = l .styles }
 
 unfoldable pub listed : List Item → Lists
-listed [] = noLists
+listed [] = record { cues = []; regions = []; styles = [] }
 listed (i ∷ is) = into i (listed is)
 
 -- the lists of a plain text

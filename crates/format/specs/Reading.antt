@@ -34,8 +34,7 @@ reading s cues regions styles =
     (cond (ltb (firstNotPlain s) (length s)) (refused 3 (firstNotPlain s ∷ []))
     (cond (not (hasSignature s)) (refused 4 [])
     (cond (anyOver (items s)) (refused 5 [])
-    (cond
-    (ltb cues (length (lists s .cues)) || ltb regions (length (lists s .regions)) || ltb styles (length (lists s .styles)))
+    (cond (ltb cues (length (lists s .cues)) || ltb regions (length (lists s .regions)) || ltb styles (length (lists s .styles)))
     (refused 6 (counts (lists s)))
     (accepted (counts (lists s)))))))
 

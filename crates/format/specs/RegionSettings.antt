@@ -2,7 +2,7 @@
 use Prim.Native.Nat.{ℕ, _+_}
 use mathlib.Core.Bool.{Bool, true, false, cond, _||_, _&&_}
 use mathlib.Core.List.{List, [], _∷_}
-use mathlib.Core.Option.{Option, none, some}
+use mathlib.Core.Option.{Option, none, some, Option·elim}
 use lib.Dec.{ltb}
 use Rattle.format.specs.Bytes.{ascii, comma}
 use Rattle.format.specs.Limits.{maxLine}
@@ -32,10 +32,6 @@ openingRegion =
       viewport = record { x = 0; y = 100_000_000 };
       scroll = Scroll.None;
     }
-
--- the same, with the identifier
-abbrev pub openingValues : RegionValues
-openingValues = record { id = emptyPart; settings = openingRegion }
 
 -- what a change makes of the settings
 abbrev pub regionAfter : RegionChange → RegionSettings → RegionSettings
@@ -75,11 +71,6 @@ overRegion (RegionChange.Anchor p) = false
 overRegion (RegionChange.Viewport p) = false
 overRegion RegionChange.Scroll = false
 
--- `width:x`
-unfoldable pub widthChange : Option ℕ → RegionChange
-widthChange none = RegionChange.Nothing
-widthChange (some n) = RegionChange.Width n
-
 -- `lines:x`
 unfoldable pub linesChange : Option ℕ → RegionChange
 linesChange none = RegionChange.Nothing
@@ -94,24 +85,14 @@ pointOf (some x) (some y) = some (record { x = x; y = y })
 unfoldable pub point : List ℕ → Option Point
 point x = cond (has comma x) (pointOf (percentage (beforeFirst comma x)) (percentage (afterFirst comma x))) none
 
--- `regionanchor:x`
-unfoldable pub anchorChange : Option Point → RegionChange
-anchorChange none = RegionChange.Nothing
-anchorChange (some p) = RegionChange.Anchor p
-
--- `viewportanchor:x`
-unfoldable pub viewportChange : Option Point → RegionChange
-viewportChange none = RegionChange.Nothing
-viewportChange (some p) = RegionChange.Viewport p
-
 -- what one setting changes, by its name and the bytes of its value
 unfoldable pub regionNamed : List ℕ → List ℕ → RegionChange
 regionNamed name x =
     cond (same name (ascii "id")) RegionChange.Id
-    (cond (same name (ascii "width")) (widthChange (percentage x))
+    (cond (same name (ascii "width")) (Option·elim (percentage x) RegionChange.Nothing RegionChange.Width)
     (cond (same name (ascii "lines")) (linesChange (lineCount x))
-    (cond (same name (ascii "regionanchor")) (anchorChange (point x))
-    (cond (same name (ascii "viewportanchor")) (viewportChange (point x))
+    (cond (same name (ascii "regionanchor")) (Option·elim (point x) RegionChange.Nothing RegionChange.Anchor)
+    (cond (same name (ascii "viewportanchor")) (Option·elim (point x) RegionChange.Nothing RegionChange.Viewport)
     (cond (same name (ascii "scroll") && same x (ascii "up")) RegionChange.Scroll RegionChange.Nothing)))))
 
 -- what one token changes: nothing where its first colon is missing, first or last
@@ -130,7 +111,7 @@ regionSetting t r =
 
 -- the region that a part of a text gives
 unfoldable pub regionSettings : Part → Flagged RegionValues
-regionSettings p = folded regionSetting (unflagged openingValues) (tokens (p .place) (p .bytes))
+regionSettings p = folded regionSetting (unflagged (record { id = emptyPart; settings = openingRegion })) (tokens (p .place) (p .bytes))
 
 abbrev pub regionIs : RegionValues → Region
 regionIs r = record { id = spanIs (r .id); settings = r .settings }

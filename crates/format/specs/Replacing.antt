@@ -12,7 +12,7 @@ use Rattle.format.specs.Plain.{plainText}
 use Rattle.format.specs.Lines.{split, join}
 use Rattle.format.specs.RegionSettings.{lastNamed}
 use Rattle.format.specs.Blocks.{Line, hasSignature, blocks}
-use Rattle.format.specs.Lists.{Item, nothing, cue, style, region, meaning, isCue, items, lists, anyOver}
+use Rattle.format.specs.Lists.{Item, meaning, isCue, items, lists, anyOver}
 use Rattle.format.specs.Rows.{ids, newCueEntry, newCueName}
 use Rattle.format.specs.Contents.{CueContents, Contents, contents, cueOfEntry}
 use Rattle.format.specs.Answers.{Answer, accepted, refused, ifAccepted, andThen, fileAnswer, placed}
@@ -63,10 +63,7 @@ rawEnd raw n = rawStart raw n + length (getD (rawLines raw) n (emptyLine []) .by
 
 -- the blocks that give cues, one after the other
 unfoldable pub blockOfCue : Item → List Line → List (List Line)
-blockOfCue nothing b = []
-blockOfCue (cue c over) b = b ∷ []
-blockOfCue (style text) b = []
-blockOfCue (region r over) b = []
+blockOfCue i b = cond (isCue i) (b ∷ []) []
 
 unfoldable pub cueBlocksFrom : Bool → List (List Line) → List (List Line)
 cueBlocksFrom seen [] = []
@@ -102,15 +99,7 @@ unfoldable pub regionAsked : List (List ℕ) → List ℕ → Option ℕ
 regionAsked names name = cond (isEmpty name) none (lastNamed 0 name names)
 
 unfoldable pub withRegion : Option ℕ → CueContents → CueContents
-withRegion r c =
-    record {
-      id = c .id;
-      start = c .start;
-      end = c .end;
-      text = c .text;
-      settings = c .settings;
-      region = r;
-    }
+withRegion r c = record { id = c .id; start = c .start; end = c .end; text = c .text; settings = c .settings; region = r }
 
 -- the cue asked for, in a file whose regions have these names
 unfoldable pub cueAsked : List ℕ → List ℕ → List (List ℕ) → CueContents

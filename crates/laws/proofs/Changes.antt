@@ -4,14 +4,18 @@ use mathlib.Core.Path.{_≡_, refl, ap, _∙_}
 use mathlib.Core.Bool.{Bool, true, false, cond, _||_}
 use mathlib.Core.List.{List, [], _∷_}
 use lib.Dec.{eqb}
-use Rattle.format.specs.Texts.{Part}
+use Rattle.format.specs.Texts.{Part, emptyPart}
 use Rattle.format.specs.Tokens.{Flagged, folded}
 use Rattle.format.specs.CueSettings.{nameAfter, isHorizontal}
-use Rattle.format.specs.RegionSettings.{idAfter}
+use Rattle.format.specs.RegionSettings.{RegionValues, openingRegion, idAfter}
 use Rattle.format.specs.declared.settings.Change.{Change}
 use Rattle.format.specs.declared.settings.Change.the-variants as Change
 use Rattle.format.specs.declared.regions.RegionChange.{RegionChange}
 use Rattle.format.specs.declared.regions.RegionChange.the-variants as RegionChange
+
+-- the values with which a region's settings are folded
+abbrev pub openingValues : RegionValues
+openingValues = record { id = emptyPart; settings = openingRegion }
 
 -- names that are alike stay so: the setting's value is taken for both or for none, and both are cleared or none
 module _ {A B : Type 0} (Alike : A → B → Type 0) {a : A} {b : B} (cleared : Alike a b) where

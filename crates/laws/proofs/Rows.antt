@@ -18,7 +18,7 @@ use Rattle.format.specs.Blocks.{Line as TextLine, linesAt, Collecting, between,
 use Rattle.format.specs.Lists.{Cue, Item, nothing, cue, style, region, meaning, isCue, itemsFrom, items, Lists, into, listed, lists}
 use Rattle.format.specs.Rows.{directionOf, lineOf, lineAlignOf, positionOf, positionAlignOf, alignOf, regionIndexOf, scrollOf, directionWord, lineWord, lineNumberWord, snapWord, lineAlignWord, positionWord, positionNumberWord, positionAlignWord, alignWord, regionWord, scrollWord, greatestWord}
 use Rattle.format.specs.Rows.{word, cueEntryWith, cueWords, regionWords, styleWords, cueEntry, regionEntry, styleEntry, regionFor, entryIs, ids, indexIs, cueRows, regionRows, styleRows}
-use Rattle.format.specs.Contents.{CueContents, cueContents, regionContents, contents, optionOf, cueOfEntry, regionOfEntry, styleOfEntry, cueOfRow, regionOfRow, styleOfRow, contentsOfRows, storedContents}
+use Rattle.format.specs.Contents.{CueContents, cueContents, regionContents, contents, optionOf, cueOfEntry, regionOfEntry, cueOfRow, regionOfRow, styleOfRow, contentsOfRows, storedContents}
 use Rattle.laws.proofs.Tests.{by-test}
 use Rattle.laws.proofs.Names.{found}
 use Rattle.laws.proofs.Standing.{All, Stands, Signed, CueStands, lists-stand}
@@ -236,7 +236,6 @@ unfolding regionOfEntry regionContents
 region-same s r k = ap (regionOfEntry s) (region-inverse (regionIs r)) ∙ rw (stands-bytes s (r .id) k)
 
 style-same : (s : List ℕ) (t : Part) → Stands s t → styleOfRow s (styleWords (spanIs t)) ≡ t .bytes
-unfolding styleOfEntry
 style-same s t k = stands-bytes s t k
 
 -- two functions agree on a list whose members have a property

@@ -3,7 +3,7 @@ use Prim.Native.Nat.{ℕ, suc, _+_, _-_, _<_}
 use mathlib.Core.Path.{_≡_, refl, sym, ap, subst, _∙_}
 use mathlib.Core.Bool.{Bool, true, false, cond, not, _||_, _&&_, false≢true}
 use mathlib.Core.List.{List, [], _∷_, _++_, append-assoc}
-use mathlib.Core.Option.{Option, none, some}
+use mathlib.Core.Option.{Option, none, some, Option·elim}
 use native.Mathlib.Omega.{arith}
 use lib.Dec.{eqb, ltb}
 use lib.ListN.{length, take, drop, take-append-drop, length-append, length-drop}
@@ -14,8 +14,8 @@ use Rattle.format.specs.Limits.{maxLine}
 use Rattle.format.specs.Texts.{Part, emptyPart, isEmpty, same, endsWith, beforeFirst, run, pastRun, startsWith}
 use Rattle.format.specs.Numbers.{number, percentage, LineNumber, lineNumber, overLine, isNegative, millionths, lineCount}
 use Rattle.format.specs.Tokens.{inToken, onToken, beforeTokens, tokens, nameOf, valueOf, Flagged, folded}
-use Rattle.format.specs.CueSettings.{CueSettings, settingsAfter, lineAlign, linePercentage, lineCounted, lineAligned, lineChange}
-use Rattle.format.specs.CueSettings.{positionAlign, positionAligned, positionChange, sizeChange, named, cueChange, changed, cueSetting, cueSettings}
+use Rattle.format.specs.CueSettings.{CueSettings, settingsAfter, lineAlign, lineAtPercentage, lineCounted, lineAligned, lineChange}
+use Rattle.format.specs.CueSettings.{positionAlign, positionAligned, positionChange, named, cueChange, changed, cueSetting, cueSettings}
 use Rattle.format.specs.declared.settings.Settings.{Settings}
 use Rattle.format.specs.declared.settings.Change.{Change}
 use Rattle.format.specs.declared.settings.Change.the-variants as Change
@@ -24,7 +24,7 @@ use Rattle.format.specs.declared.settings.Line.the-variants as LineSetting
 use Rattle.format.specs.declared.settings.LineAlign.{LineAlign}
 use Rattle.format.specs.declared.settings.PositionAlign.{PositionAlign}
 use Rattle.format.specs.Tokens.{Flagged, unflagged, folded}
-use Rattle.format.specs.RegionSettings.{RegionValues, openingValues, regionChange, regionSetting, regionSettings}
+use Rattle.format.specs.RegionSettings.{RegionValues, regionChange, regionSetting, regionSettings}
 use Rattle.format.specs.Times.{Result, failed, got, onGot, Step, _>>=_, holds, expect, hoursFirst, field, threeValues, inRange, lastSteps}
 use Rattle.format.specs.Times.{timestamp}
 use Rattle.format.specs.TimingLines.{skipWhite, arrow, Times, arrowAndEnd, timings, Timing, withSettings, timingOf, timingLine}
@@ -37,7 +37,7 @@ use Rattle.laws.proofs.Tests.{by-test}
 use Rattle.laws.proofs.Runs.{drop-take, pastRun-drop}
 use Rattle.laws.proofs.Lines.{splits}
 use Rattle.laws.proofs.Tokens.{after-at}
-use Rattle.laws.proofs.Changes.{name-after, id-after}
+use Rattle.laws.proofs.Changes.{openingValues, name-after, id-after}
 
 -- these bytes stand at this place of the text
 abbrev pub StandsAt : List ℕ → ℕ → List ℕ → Type 0
@@ -185,11 +185,11 @@ SignedChange (Change.Size n) = Unit
 SignedChange (Change.Align a) = Unit
 
 line-changed : (place : List ℕ) (a : Option LineAlign) → SignedChange (lineAligned place a)
-unfolding SignedChange lineAligned linePercentage lineCounted
+unfolding SignedChange lineAligned lineAtPercentage lineCounted Option·elim
 line-changed place none = tt
 line-changed place (some a) =
     either SignedChange (endsWith percent place)
-    (by-option (λ n. SignedChange (linePercentage n a)) (percentage place) tt (λ n. tt))
+    (by-option (λ n. SignedChange (Option·elim n Change.Nothing (lineAtPercentage a))) (percentage place) tt (λ n. tt))
     (by-option (λ n. SignedChange (lineCounted n a)) (lineNumber place) tt (λ n. either SignedChange (overLine n) tt (line-signed n)))
 
 position-changed : (n : Option ℕ) (a : Option PositionAlign) → SignedChange (positionAligned n a)
@@ -199,7 +199,7 @@ position-changed (some n) none = tt
 position-changed (some n) (some a) = tt
 
 change-signed : (t : Part) (s : Settings) → SignedChange (cueChange t s)
-unfolding SignedChange cueChange named lineChange positionChange sizeChange
+unfolding SignedChange cueChange named lineChange positionChange Option·elim
 change-signed t s =
     let name = nameOf t in
     let x = valueOf t .bytes in
@@ -209,7 +209,7 @@ change-signed t s =
     (either SignedChange (same name (ascii "vertical")) tt
     (either SignedChange (same name (ascii "line")) (line-changed n (lineAlign x (s .line .align)))
     (either SignedChange (same name (ascii "position")) (position-changed (percentage n) (positionAlign x (s .position .align)))
-    (either SignedChange (same name (ascii "size")) (by-option (λ n. SignedChange (sizeChange n)) (percentage x) tt (λ n. tt))
+    (either SignedChange (same name (ascii "size")) (by-option (λ n. SignedChange (Option·elim n Change.Nothing Change.Size)) (percentage x) tt (λ n. tt))
     (either SignedChange (same name (ascii "align")) tt tt))))))
 
 changed-signed : (h : Change) (s : Settings) → SignedChange h → Signed (s .line .line) → Signed (settingsAfter h s .line .line)

@@ -115,7 +115,7 @@ module _
         → itemOver i ≡ false
         → Left s number name (i ∷ is) (blockOfCue i b ++ cs) f
         → Left s number name is cs (withItem s number name (itemIs i) lines f)
-    unfolding blockOfCue anyOver itemOver listed into ids anyNamed
+    unfolding blockOfCue isCue anyOver itemOver listed into ids anyNamed
     left-next nothing w h =
         record { blocks = h .blocks; over = h .over; stand = h .stand .1; counted = h .counted; own = h .own; none = h .none; named = h .named }
     left-next (cue c over) w h =

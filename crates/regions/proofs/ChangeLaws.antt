@@ -3,12 +3,12 @@ use Prim.Native.Nat.{ℕ}
 use mathlib.Core.Path.{_≡_, refl, sym, ap}
 use mathlib.Core.Bool.{_||_}
 use mathlib.Core.List.{List, [], _∷_}
-use mathlib.Core.Option.{Option, none, some}
+use mathlib.Core.Option.{Option, none, some, Option·elim}
 use lib.Dec.{ltb}
 use Rattle.format.specs.Texts.{Part}
 use Rattle.format.specs.Tokens.{Flagged, folded, valueOf}
 use Rattle.format.specs.CueSettings.{spanIs}
-use Rattle.format.specs.RegionSettings.{RegionValues, pointOf, widthChange, linesChange, anchorChange, viewportChange, regionAfter, overRegion, regionChange, regionSetting}
+use Rattle.format.specs.RegionSettings.{RegionValues, pointOf, linesChange, regionAfter, overRegion, regionChange, regionSetting}
 use Rattle.format.specs.declared.regions.Point.{Point}
 use Rattle.format.specs.declared.regions.RegionChange.{RegionChange}
 use Rattle.format.specs.declared.regions.RegionChange.the-variants as RegionChange
@@ -36,15 +36,6 @@ point-is (some x) none = refl
 point-is (some x) (some y) = refl
 
 -- what each answer of the code changes
-abbrev pub widthFrom : Percentage → RegionChange
-widthFrom Percentage.Bad = RegionChange.Nothing
-widthFrom (Percentage.Good n) = RegionChange.Width n
-
-pub width-is : (o : Option ℕ) → widthChange o ≡ widthFrom (percentageIs o)
-unfolding widthChange
-width-is none = refl
-width-is (some n) = refl
-
 abbrev pub linesFrom : LineCount → RegionChange
 linesFrom LineCount.Bad = RegionChange.Nothing
 linesFrom LineCount.Over = RegionChange.Over
@@ -55,23 +46,14 @@ unfolding linesChange
 lines-is none = refl
 lines-is (some n) = by-test (ltb 999_999 n) (λ y. rw y) (λ z. rw z)
 
-abbrev pub anchorFrom : PointRead → RegionChange
-anchorFrom PointRead.Bad = RegionChange.Nothing
-anchorFrom (PointRead.Good p) = RegionChange.Anchor p
+abbrev pub ofPoint : {A : Type 0} → PointRead → A → (Point → A) → A
+ofPoint PointRead.Bad absent made = absent
+ofPoint (PointRead.Good p) absent made = made p
 
-pub anchor-is : (o : Option Point) → anchorChange o ≡ anchorFrom (pointIs o)
-unfolding anchorChange
-anchor-is none = refl
-anchor-is (some p) = refl
-
-abbrev pub viewportFrom : PointRead → RegionChange
-viewportFrom PointRead.Bad = RegionChange.Nothing
-viewportFrom (PointRead.Good p) = RegionChange.Viewport p
-
-pub viewport-is : (o : Option Point) → viewportChange o ≡ viewportFrom (pointIs o)
-unfolding viewportChange
-viewport-is none = refl
-viewport-is (some p) = refl
+pub point-told : {A : Type 0} (o : Option Point) (a : A) (f : Point → A) → Option·elim o a f ≡ ofPoint (pointIs o) a f
+unfolding Option·elim
+point-told none a f = refl
+point-told (some p) a f = refl
 
 -- one token: of each part that may become the identifier the code has the span
 step-is :

@@ -11,10 +11,12 @@ use values::numbers::Percentage;
 use values::tokens::NameEnd;
 use values::tokens::Token;
 ghost use mathlib.Core.Path.{_≡_};
+ghost use mathlib.Core.Option.{Option·elim};
 ghost use Prim.Native.Nat.{_≤_};
 ghost use lib.ListN.{length};
 ghost use Rattle.format.specs.Numbers.{percentage, lineCount};
-ghost use Rattle.format.specs.RegionSettings.{regionAfter, idAfter, overRegion, widthChange, linesChange, point, anchorChange, viewportChange, regionNamed, regionSettings};
+ghost use Rattle.format.specs.RegionSettings.{regionAfter, idAfter, overRegion, linesChange, point, regionNamed, regionSettings};
+ghost use Rattle.format.specs.declared.regions.RegionChange.the-variants as Cases;
 ghost use Rattle.values.specs.Tokens.{Named, tokenFrom, partOf};
 ghost use Rattle.regions.specs.Changes.{pointIs, stepIs, takenIs};
 
@@ -43,7 +45,7 @@ fn read_point(value: &[u8]) -> PointRead
 }
 
 fn width_change(value: &[u8]) -> RegionChange
-    ensures { λ r. ⌜ r ≡ widthChange (percentage (now (value .entry))) ⌝ }
+    ensures { λ r. ⌜ r ≡ Option·elim (percentage (now (value .entry))) Cases.Nothing Cases.Width ⌝ }
 {
     match values::numbers::read_percentage(value) {
         Percentage::Bad => RegionChange::Nothing,
@@ -62,7 +64,7 @@ fn lines_change(value: &[u8]) -> RegionChange
 }
 
 fn anchor_change(value: &[u8]) -> RegionChange
-    ensures { λ r. ⌜ r ≡ anchorChange (point (now (value .entry))) ⌝ }
+    ensures { λ r. ⌜ r ≡ Option·elim (point (now (value .entry))) Cases.Nothing Cases.Anchor ⌝ }
 {
     match read_point(value) {
         PointRead::Bad => RegionChange::Nothing,
@@ -71,7 +73,7 @@ fn anchor_change(value: &[u8]) -> RegionChange
 }
 
 fn viewport_change(value: &[u8]) -> RegionChange
-    ensures { λ r. ⌜ r ≡ viewportChange (point (now (value .entry))) ⌝ }
+    ensures { λ r. ⌜ r ≡ Option·elim (point (now (value .entry))) Cases.Nothing Cases.Viewport ⌝ }
 {
     match read_point(value) {
         PointRead::Bad => RegionChange::Nothing,

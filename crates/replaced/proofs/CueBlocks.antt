@@ -36,14 +36,14 @@ record IsCue (i : Item) : Type 0 where
 -- a block gives a cue and is the block of one, or does neither
 module _ (b : List Line) where
   one-cue : (i : Item) (k : ℕ) → k < length (blockOfCue i b) → (k ≡ 0) × IsCue i
-  unfolding blockOfCue
+  unfolding blockOfCue isCue
   one-cue nothing k h = absurd (omega arith)
   one-cue (cue c over) k h = (omega arith, record { values = c; over = over; is = refl })
   one-cue (style text) k h = absurd (omega arith)
   one-cue (region r over) k h = absurd (omega arith)
 
   cues-into : (i : Item) (l : Lists) → length (into i l .cues) ≡ length (blockOfCue i b) + length (l .cues)
-  unfolding blockOfCue into
+  unfolding blockOfCue isCue into
   cues-into nothing l = omega arith
   cues-into (cue c over) l = omega arith
   cues-into (style text) l = omega arith
@@ -64,7 +64,7 @@ module _ (seen : Bool) (b : List Line) (bs : List (List Line)) where
   first = meaning seen b
 
   cue-here : IsCue first → CueAt seen (b ∷ bs) 0
-  unfolding cueBlocksFrom blockOfCue itemsFrom listed succeeded
+  unfolding cueBlocksFrom blockOfCue isCue itemsFrom listed succeeded
   cue-here c = record { earlier = []; block = b; later = bs; is = refl; found = rw (c .is); count = refl; gives = c }
 
   cue-after : (k : ℕ) → CueAt (seen || isCue first) bs k → CueAt seen (b ∷ bs) (length (blockOfCue first b) + k)

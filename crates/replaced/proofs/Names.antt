@@ -9,7 +9,8 @@ use lib.ListN.{getD}
 use Rattle.format.specs.Bytes.{ascii, colon, white}
 use Rattle.format.specs.Texts.{Part, emptyPart, all, afterFirst}
 use Rattle.format.specs.Tokens.{unflagged, inToken, onToken, beforeTokens, tokens, valueOf}
-use Rattle.format.specs.RegionSettings.{RegionValues, openingValues, regionSettings}
+use Rattle.format.specs.RegionSettings.{RegionValues, regionSettings}
+use Rattle.laws.proofs.Changes.{openingValues}
 use Rattle.format.specs.TimingLines.{Timing, timingLine}
 use Rattle.format.specs.Blocks.{Line, linePart, holdsArrow, blocks, joined}
 use Rattle.format.specs.Lists.{Item, nothing, cue, style, region, cueOf, regionOf, isWord, definition, meaning, isCue, itemsFrom, items, into, listed, lists}

@@ -4,7 +4,7 @@ use Prim.Native.Nat.{ℕ, zero, suc, _+_, _-_, _/_, _%_, _≤_, _<_}
 use mathlib.Core.Path.{_≡_, refl, sym, ap, _∙_}
 use mathlib.Core.Bool.{Bool, true, false, cond, not, _&&_, _||_, false≢true}
 use mathlib.Core.List.{List, [], _∷_, _++_, map, append-assoc, append-nil}
-use mathlib.Core.Option.{Option, none, some}
+use mathlib.Core.Option.{Option, none, some, Option·elim}
 use native.Mathlib.Omega.{arith}
 use lib.Dec.{eqb, leb, ltb}
 use lib.ListN.{length, getD}
@@ -12,8 +12,8 @@ use borrow.Author.Tests.{ne-eqb, eqb-true, eq-eqb, ltb-true, leb-true, le-ltb, n
 use Rattle.format.specs.Bytes.{ascii, white, lf, percent, comma, hyphen, fullStop, colon, digit}
 use Rattle.format.specs.Texts.{Part, emptyPart, isEmpty, same, all, run, endsWith, startsWith, pastRun, beforeFirst, has, bytesAt}
 use Rattle.format.specs.Tokens.{Flagged, unflagged, folded}
-use Rattle.format.specs.CueSettings.{CueSettings, openingSettings, settingsAfter, nameAfter, isOver, direction, lineAlign, linePercentage, lineCounted}
-use Rattle.format.specs.CueSettings.{lineAligned, lineChange, positionAlign, positionAligned, positionChange, sizeChange, alignment, named, cueChange}
+use Rattle.format.specs.CueSettings.{CueSettings, openingSettings, settingsAfter, nameAfter, isOver, direction, lineAlign, lineAtPercentage, lineCounted}
+use Rattle.format.specs.CueSettings.{lineAligned, lineChange, positionAlign, positionAligned, positionChange, alignment, named, cueChange}
 use Rattle.format.specs.CueSettings.{changed, cueSetting, cueSettings}
 use Rattle.format.specs.declared.settings.Settings.{Settings}
 use Rattle.format.specs.declared.settings.Change.{Change}
@@ -212,10 +212,10 @@ module _ (p : ℕ) (s : Settings) where
   align-written Align.Right = (align-read Align.Right (ascii "right") refl refl, tt)
 
   size-read : (m : ℕ) → m ≤ 100_000_000 → cueChange (settingAt p (ascii "size") (writtenPercentage m)) s ≡ Change.Size m
-  unfolding absent isEmpty named same sizeChange
+  unfolding absent isEmpty named same Option·elim
   size-read m h =
       setting-read p (ascii "size") (writtenPercentage m) s refl refl (writtenPercentage-some m)
-      ∙ ap sizeChange (percentage-read m h)
+      ∙ ap (λ o. Option·elim o Change.Nothing Change.Size) (percentage-read m h)
 
   region-read : (name : List ℕ) → isEmpty name ≡ false → cueChange (settingAt p (ascii "region") name) s ≡ Change.Region
   unfolding absent isEmpty named same
@@ -251,7 +251,7 @@ line-number :
     → beforeFirst comma x ≡ writtenLineNumber snap negative m
     → lineAlign x old ≡ some a
     → lineChange x old ≡ Change.Line (record { line = Line.At negative m; snap = snap; align = a })
-unfolding lineChange lineAligned linePercentage lineCounted writtenLineNumber
+unfolding lineChange lineAligned lineAtPercentage lineCounted Option·elim writtenLineNumber
 line-number x old true negative m a (counted h z) b e =
     let r = line-read negative m h z in
     rw (b, e, line-ends true negative m, r .read, r .within, r .sign, r .value)

@@ -12,7 +12,7 @@ use Rattle.format.specs.Bytes.{ascii, digit, nul, cr, lf, space, comma, hyphen,
 use Rattle.format.specs.Texts.{isEmpty, all, bytesAt}
 use Rattle.format.specs.Lines.{onFirst, before, split, afterLineEnds, join}
 use Rattle.format.specs.Plain.{sequence, repair, plainStart, plainFrom, firstNotPlain, Plain}
-use Rattle.format.specs.Contents.{CueContents, RegionContents, Contents, contentsOfRows, cueOfEntry, regionOfEntry, styleOfEntry, cueOfRow, regionOfRow, styleOfRow}
+use Rattle.format.specs.Contents.{CueContents, RegionContents, Contents, contentsOfRows, cueOfEntry, regionOfEntry, cueOfRow, regionOfRow, styleOfRow}
 use Rattle.format.specs.Rows.{cueCodesNamed, regionCodesNamed, cueEntry, regionEntry, styleEntry}
 use Rattle.format.specs.Writable.{partPlain, cueTest1, regionTest1, styleTest1}
 use Rattle.format.specs.Written.{decimalIn, writtenTime, writtenDecimal, writtenPercentage, setting, writtenVertical, writtenLineAlign}
@@ -422,7 +422,7 @@ region-plain s w e =
     part-plain s (id .from) (id .to) (and-left (partPlain s (id .from) (id .to)) (regionCodesNamed w) e)
 
 pub style-plain : (s w : List ℕ) → styleTest1 s (styleEntry w) ≡ true → Plain (styleOfRow s w)
-unfolding styleTest1 styleOfEntry
+unfolding styleTest1
 style-plain s w e = let t = styleEntry w in part-plain s (t .from) (t .to) e
 
 pub rows-plain :

@@ -4,7 +4,7 @@ use Prim.Native.Nat.{ℕ, suc, _+_, _≤_, _<_}
 use mathlib.Core.Path.{_≡_, refl, sym, ap, _∙_}
 use mathlib.Core.Bool.{Bool, true, false, not, _&&_}
 use mathlib.Core.List.{List, [], _∷_, _++_, append-assoc, append-nil}
-use mathlib.Core.Option.{none, some}
+use mathlib.Core.Option.{none, some, Option·elim}
 use native.Mathlib.Omega.{arith}
 use lib.Dec.{eqb}
 use lib.ListN.{length, length-append}
@@ -15,8 +15,9 @@ use Rattle.format.specs.Texts.{Part, emptyPart, startsWith, same, isEmpty, all,
 use Rattle.format.specs.Lines.{join}
 use Rattle.format.specs.Blocks.{linesAt, holdsArrow}
 use Rattle.format.specs.Tokens.{Flagged, unflagged, folded, valueOf}
-use Rattle.format.specs.RegionSettings.{RegionValues, openingRegion, openingValues, regionAfter, idAfter, overRegion, widthChange, linesChange}
-use Rattle.format.specs.RegionSettings.{pointOf, point, anchorChange, viewportChange, regionNamed, regionChange, regionSetting, regionSettings}
+use Rattle.format.specs.RegionSettings.{RegionValues, openingRegion, regionAfter, idAfter, overRegion, linesChange}
+use Rattle.laws.proofs.Changes.{openingValues}
+use Rattle.format.specs.RegionSettings.{pointOf, point, regionNamed, regionChange, regionSetting, regionSettings}
 use Rattle.format.specs.Lists.{Item, region, regionOf, meaning}
 use Rattle.format.specs.Contents.{RegionContents, regionContents, regionOfRow}
 use Rattle.format.specs.Written.{decimalIn, writtenPercentage, setting, writtenPoint, writtenId, writtenScroll, regionLines}
@@ -179,7 +180,7 @@ module _ (p : ℕ) where
       (m : ℕ)
       → m ≤ 100_000_000
       → regionChange (record { place = p; bytes = ascii "width" ++ colon ∷ writtenPercentage m }) ≡ RegionChange.Width m
-  unfolding regionNamed same widthChange
+  unfolding regionNamed same Option·elim
   width-read m h = changes (ascii "width") (writtenPercentage m) width-name (writtenPercentage-some m) ∙ rw (percentage-read m h)
 
   lines-read :
@@ -194,14 +195,14 @@ module _ (p : ℕ) where
       (at : Point)
       → Percents at
       → regionChange (record { place = p; bytes = ascii "regionanchor" ++ colon ∷ writtenPoint at }) ≡ RegionChange.Anchor at
-  unfolding regionNamed same anchorChange
+  unfolding regionNamed same Option·elim
   anchor-read at h = changes (ascii "regionanchor") (writtenPoint at) anchor-name (point-value at .full) ∙ rw (point-read at h)
 
   viewport-read :
       (at : Point)
       → Percents at
       → regionChange (record { place = p; bytes = ascii "viewportanchor" ++ colon ∷ writtenPoint at }) ≡ RegionChange.Viewport at
-  unfolding regionNamed same viewportChange
+  unfolding regionNamed same Option·elim
   viewport-read at h = changes (ascii "viewportanchor") (writtenPoint at) viewport-name (point-value at .full) ∙ rw (point-read at h)
 
   scroll-read : regionChange (record { place = p; bytes = ascii "scroll" ++ colon ∷ ascii "up" }) ≡ RegionChange.Scroll

@@ -3,7 +3,7 @@ use Prim.Native.Nat.{ℕ, _+_, _-_, _≤_, _<_, min}
 use mathlib.Core.Path.{_≡_, refl, sym, _∙_}
 use mathlib.Core.Bool.{Bool, true, false, cond, not, _&&_, true≢false}
 use mathlib.Core.List.{List, [], _∷_}
-use mathlib.Core.Option.{Option, none, some}
+use mathlib.Core.Option.{Option, none, some, Option·elim}
 use native.Mathlib.Numerals.{add-one}
 use native.Mathlib.Omega.{arith}
 use lib.Dec.{eqb, ltb}
@@ -15,6 +15,8 @@ use Rattle.format.specs.Texts.{all, pastRun, isEmpty, endsWith}
 use Rattle.format.specs.Numbers.{number, someDigits, Decimal, decimalOf, decimal, above, millionths, upTo100, percentage, signed, lineNumber, overLine, isNegative, lineCount}
 use Rattle.laws.proofs.Tests.{by-test, and-false}
 use Rattle.laws.proofs.Runs.{RunStart, endsWith-last, withoutLast-take}
+use Rattle.values.specs.declared.numbers.Percentage.{Percentage}
+use Rattle.values.specs.declared.numbers.Percentage.the-variants as Percentage
 use Rattle.values.specs.Numbers.{cap, decimalIs, aboveHeld, percentageIs, percentageOf, lineOf, lineNumberIs}
 
 -- a test against a number below the cap is the same on the held value
@@ -23,6 +25,17 @@ ltb-held k v l =
     by-test (ltb k v)
     (λ y. lt-ltb k (min v cap) (omega (arith, ltb-true k v y)) ∙ sym y)
     (λ n. le-ltb k (min v cap) (omega (arith, ltb-false k v n)) ∙ sym n)
+
+-- what is made of a percentage, by the code's answer
+abbrev pub ofPercentage : {A : Type 0} → Percentage → A → (ℕ → A) → A
+ofPercentage Percentage.Bad absent made = absent
+ofPercentage (Percentage.Good n) absent made = made n
+
+pub percentage-told :
+    {A : Type 0} (o : Option ℕ) (a : A) (f : ℕ → A) → Option·elim o a f ≡ ofPercentage (percentageIs o) a f
+unfolding Option·elim
+percentage-told none a f = refl
+percentage-told (some n) a f = refl
 
 pub empty-is : (s : List ℕ) → length s ≡ 0 → isEmpty s ≡ true
 unfolding isEmpty

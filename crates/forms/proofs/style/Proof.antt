@@ -2,7 +2,6 @@
 use mathlib.Core.Path.{ap}
 use Rattle.format.specs.Texts.{bytesAt}
 use Rattle.format.specs.Lines.{join}
-use Rattle.format.specs.Contents.{styleOfEntry}
 use Rattle.format.specs.Written.{styleLines}
 use Rattle.output.proofs.PutLaws.{_then_}
 use Rattle.forms.proofs.FormLaws.{ended-split}
@@ -32,7 +31,7 @@ same-length : tie.Need-same-length
 same-length c = search needs
 
 returns : tie.Need-returns
-unfolding styleLines styleOfEntry join
+unfolding styleLines join
 returns c =
     let text = c .before .before in
     let part = text .before .before in

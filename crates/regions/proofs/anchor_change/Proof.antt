@@ -1,6 +1,6 @@
 -- `regions::anchor_change` meets its contract.
 use mathlib.Core.Path.{sym, _∙_}
-use Rattle.regions.proofs.ChangeLaws.{anchor-is}
+use Rattle.regions.proofs.ChangeLaws.{point-told}
 use borrow.Author.Needs.{needs}
 use Rattle.regions.proofs.anchor_change.Statement.{statement}
 use Rattle.regions.proofs.anchor_change.Tie as tie
@@ -15,10 +15,10 @@ enum-known-p : tie.Need-enum-known-p
 enum-known-p c = search needs
 
 returns : tie.Need-returns
-returns c = rw (anchor-is, sym (c .before .before .read-point .ensures) ∙ c .enum-told .given .1)
+returns c = rw (point-told, sym (c .before .before .read-point .ensures) ∙ c .enum-told .given .1)
 
 returns-2 : tie.Need-returns-2
-returns-2 c = rw (anchor-is, sym (c .before .before .before .read-point .ensures) ∙ c .before .p .given .1)
+returns-2 c = rw (point-told, sym (c .before .before .before .read-point .ensures) ∙ c .before .p .given .1)
 
 pub anchor-change-spec : {M : Type 1} → statement M
 anchor-change-spec =

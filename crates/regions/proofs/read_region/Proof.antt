@@ -6,11 +6,11 @@ use native.Mathlib.Omega.{arith}
 use lib.ListN.{length, drop}
 use lib.Seq.{length-take-le}
 use borrow.Author.Needs.{needs}
-use Rattle.laws.proofs.Changes.{stepped}
+use Rattle.laws.proofs.Changes.{openingValues, stepped}
 use Rattle.format.specs.Texts.{isEmpty}
 use Rattle.format.specs.CueSettings.{spanIs}
 use Rattle.format.specs.Tokens.{unflagged, tokens}
-use Rattle.format.specs.RegionSettings.{openingValues, regionSettings}
+use Rattle.format.specs.RegionSettings.{regionSettings}
 use Rattle.values.specs.Tokens.{TokenHere, tokenFrom}
 use Rattle.regions.specs.Changes.{stepIs, takenIs}
 use Rattle.regions.proofs.ChangeLaws.{fold-is}

@@ -1,7 +1,8 @@
 -- `writable::style_test` meets its contract.
 use mathlib.Core.Path.{_≡_, ap, _∙_}
 use Rattle.format.specs.Rows.{styleEntry}
-use Rattle.format.specs.Contents.{styleOfEntry, styleOfRow}
+use Rattle.format.specs.Texts.{bytesAt}
+use Rattle.format.specs.Contents.{styleOfRow}
 use Rattle.format.specs.Writable.{firstFailing, partPlain, unbroken, styleTest1, styleFails}
 use Rattle.writable.proofs.FaultLaws.{failed, passed}
 use borrow.Author.Needs.{needs}
@@ -23,11 +24,10 @@ plain-is c =
 unbroken-is :
     (c : tie.After-is-unbroken)
     → let a = c .before .before .before .before .before .before .args in c .is-unbroken .result ≡ unbroken (styleOfRow (a .text .now) (a .row))
-unfolding styleOfEntry
 unbroken-is c =
     let plain = c .before .before .before in
     let a = plain .before .before .before .args in
-    c .is-unbroken .ensures ∙ ap unbroken (c .before .part .ensures) ∙ ap (λ p. unbroken (styleOfEntry (a .text .now) p)) (plain .before .text .ensures)
+    c .is-unbroken .ensures ∙ ap unbroken (c .before .part .ensures) ∙ ap (λ p. unbroken (bytesAt (a .text .now) (p .from) (p .to))) (plain .before .text .ensures)
 
 text-requires : tie.Need-text-requires
 text-requires c κs = search needs

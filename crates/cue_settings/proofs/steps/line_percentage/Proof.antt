@@ -1,6 +1,7 @@
 -- `cue_settings::steps::line_percentage` meets its contract.
-use Rattle.cue_settings.proofs.SettingLaws.{percentage-told}
+use Rattle.values.proofs.NumberLaws.{percentage-told}
 use mathlib.Core.Path.{sym, _∙_}
+use Rattle.format.specs.CueSettings.{lineAtPercentage}
 use borrow.Author.Needs.{needs}
 use Rattle.cue_settings.proofs.steps.line_percentage.Statement.{statement}
 use Rattle.cue_settings.proofs.steps.line_percentage.Tie as tie
@@ -18,6 +19,7 @@ returns : tie.Need-returns
 returns c = rw (percentage-told, sym (c .before .before .read-percentage .ensures) ∙ c .enum-told .given .1)
 
 returns-2 : tie.Need-returns-2
+unfolding lineAtPercentage
 returns-2 c = rw (percentage-told, sym (c .before .before .before .read-percentage .ensures) ∙ c .before .n .given .1)
 
 pub line-percentage-spec : {M : Type 1} → statement M

@@ -1,5 +1,5 @@
 -- `cue_settings::steps::size_change` meets its contract.
-use Rattle.cue_settings.proofs.SettingLaws.{size-told}
+use Rattle.values.proofs.NumberLaws.{percentage-told}
 use mathlib.Core.Path.{sym, _∙_}
 use borrow.Author.Needs.{needs}
 use Rattle.cue_settings.proofs.steps.size_change.Statement.{statement}
@@ -15,10 +15,10 @@ enum-known-n : tie.Need-enum-known-n
 enum-known-n c = search needs
 
 returns : tie.Need-returns
-returns c = rw (size-told, sym (c .before .before .read-percentage .ensures) ∙ c .enum-told .given .1)
+returns c = rw (percentage-told, sym (c .before .before .read-percentage .ensures) ∙ c .enum-told .given .1)
 
 returns-2 : tie.Need-returns-2
-returns-2 c = rw (size-told, sym (c .before .before .before .read-percentage .ensures) ∙ c .before .n .given .1)
+returns-2 c = rw (percentage-told, sym (c .before .before .before .read-percentage .ensures) ∙ c .before .n .given .1)
 
 pub size-change-spec : {M : Type 1} → statement M
 size-change-spec =
