@@ -7,7 +7,7 @@ use format::settings::Span;
 use strings::puts::put_collapsed;
 use strings::puts::put_decoded;
 use tokenizer::Token;
-use values::bytes::same_bytes;
+use values::names::index_of;
 use values::times::Stamp;
 ghost use mathlib.Core.Path.{_≡_};
 ghost use Prim.Native.Nat.{_≤_};
@@ -36,31 +36,17 @@ pub enum Made {
 fn kind_named(name: &[u8]) -> MaybeKind
     ensures { λ r. ⌜ kindIs r ≡ kindNamed (now (name .entry)) ⌝ }
 {
-    if same_bytes(name, b"c") {
-        return MaybeKind::Is(NodeKind::Class);
+    match index_of(b"c\ni\nb\nu\nruby\nrt\nv\nlang", name) {
+        0 => MaybeKind::Is(NodeKind::Class),
+        1 => MaybeKind::Is(NodeKind::Italic),
+        2 => MaybeKind::Is(NodeKind::Bold),
+        3 => MaybeKind::Is(NodeKind::Underline),
+        4 => MaybeKind::Is(NodeKind::Ruby),
+        5 => MaybeKind::Is(NodeKind::RubyText),
+        6 => MaybeKind::Is(NodeKind::Voice),
+        7 => MaybeKind::Is(NodeKind::Language),
+        _ => MaybeKind::None,
     }
-    if same_bytes(name, b"i") {
-        return MaybeKind::Is(NodeKind::Italic);
-    }
-    if same_bytes(name, b"b") {
-        return MaybeKind::Is(NodeKind::Bold);
-    }
-    if same_bytes(name, b"u") {
-        return MaybeKind::Is(NodeKind::Underline);
-    }
-    if same_bytes(name, b"ruby") {
-        return MaybeKind::Is(NodeKind::Ruby);
-    }
-    if same_bytes(name, b"rt") {
-        return MaybeKind::Is(NodeKind::RubyText);
-    }
-    if same_bytes(name, b"v") {
-        return MaybeKind::Is(NodeKind::Voice);
-    }
-    if same_bytes(name, b"lang") {
-        return MaybeKind::Is(NodeKind::Language);
-    }
-    MaybeKind::None
 }
 
 // The kind that the part of a text names.

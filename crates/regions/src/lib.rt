@@ -6,12 +6,16 @@ use format::regions::RegionSettings;
 use format::settings::Span;
 use values::bytes::ByteKind;
 use values::bytes::same_bytes;
+use values::names::index_of;
 use values::numbers::LineCount;
 use values::numbers::Percentage;
 use values::tokens::NameEnd;
 use values::tokens::Token;
 ghost use mathlib.Core.Path.{_≡_};
+ghost use mathlib.Core.Bool.{cond};
 ghost use mathlib.Core.Option.{Option·elim};
+ghost use Rattle.format.specs.Bytes.{ascii};
+ghost use Rattle.format.specs.Texts.{same};
 ghost use Prim.Native.Nat.{_≤_};
 ghost use lib.ListN.{length};
 ghost use Rattle.format.specs.Numbers.{percentage, lineCount};
@@ -81,29 +85,31 @@ fn viewport_change(value: &[u8]) -> RegionChange
     }
 }
 
+fn scroll_change(value: &[u8]) -> RegionChange
+    ensures { λ r. ⌜ r ≡ cond (same (now (value .entry)) (ascii "up")) Cases.Scroll Cases.Nothing ⌝ }
+{
+    if same_bytes(value, b"up") {
+        return RegionChange::Scroll;
+    }
+    RegionChange::Nothing
+}
+
 // What the setting of this name changes by its value.
 fn named_change(name: &[u8], value: &[u8]) -> RegionChange
     ensures { λ r. ⌜ r ≡ regionNamed (now (name .entry)) (now (value .entry)) ⌝ }
 {
-    if same_bytes(name, b"id") {
-        return RegionChange::Id;
+    match index_of(
+        b"id\nwidth\nlines\nregionanchor\nviewportanchor\nscroll",
+        name,
+    ) {
+        0 => RegionChange::Id,
+        1 => width_change(value),
+        2 => lines_change(value),
+        3 => anchor_change(value),
+        4 => viewport_change(value),
+        5 => scroll_change(value),
+        _ => RegionChange::Nothing,
     }
-    if same_bytes(name, b"width") {
-        return width_change(value);
-    }
-    if same_bytes(name, b"lines") {
-        return lines_change(value);
-    }
-    if same_bytes(name, b"regionanchor") {
-        return anchor_change(value);
-    }
-    if same_bytes(name, b"viewportanchor") {
-        return viewport_change(value);
-    }
-    if same_bytes(name, b"scroll") && same_bytes(value, b"up") {
-        return RegionChange::Scroll;
-    }
-    RegionChange::Nothing
 }
 
 fn apply(settings: RegionSettings, change: RegionChange) -> RegionSettings

@@ -5,6 +5,7 @@ use format::settings::LineAlign;
 use format::settings::PositionAlign;
 use values::bytes::ByteKind;
 use values::bytes::same_bytes;
+use values::names::index_of;
 ghost use mathlib.Core.Path.{_≡_};
 ghost use Rattle.format.specs.CueSettings.{direction, alignment, lineAlign, positionAlign};
 ghost use Rattle.setting_words.specs.Words.{cueNameIs, alignWordIs, alignNameIs, lineAlignedIs, positionAlignedIs};
@@ -23,25 +24,15 @@ pub enum CueName {
 pub fn cue_name(name: &[u8]) -> CueName
     ensures { λ r. ⌜ r ≡ cueNameIs (now (name .entry)) ⌝ }
 {
-    if same_bytes(name, b"region") {
-        return CueName::Region;
+    match index_of(b"region\nvertical\nline\nposition\nsize\nalign", name) {
+        0 => CueName::Region,
+        1 => CueName::Vertical,
+        2 => CueName::Line,
+        3 => CueName::Position,
+        4 => CueName::Size,
+        5 => CueName::Align,
+        _ => CueName::Other,
     }
-    if same_bytes(name, b"vertical") {
-        return CueName::Vertical;
-    }
-    if same_bytes(name, b"line") {
-        return CueName::Line;
-    }
-    if same_bytes(name, b"position") {
-        return CueName::Position;
-    }
-    if same_bytes(name, b"size") {
-        return CueName::Size;
-    }
-    if same_bytes(name, b"align") {
-        return CueName::Align;
-    }
-    CueName::Other
 }
 
 pub fn direction_of(value: &[u8], current: Direction) -> Direction
@@ -59,22 +50,14 @@ pub fn direction_of(value: &[u8], current: Direction) -> Direction
 pub fn align_of(value: &[u8], current: Align) -> Align
     ensures { λ r. ⌜ r ≡ alignment (now (value .entry)) current ⌝ }
 {
-    if same_bytes(value, b"start") {
-        return Align::Start;
+    match index_of(b"start\ncenter\nend\nleft\nright", value) {
+        0 => Align::Start,
+        1 => Align::Center,
+        2 => Align::End,
+        3 => Align::Left,
+        4 => Align::Right,
+        _ => current,
     }
-    if same_bytes(value, b"center") {
-        return Align::Center;
-    }
-    if same_bytes(value, b"end") {
-        return Align::End;
-    }
-    if same_bytes(value, b"left") {
-        return Align::Left;
-    }
-    if same_bytes(value, b"right") {
-        return Align::Right;
-    }
-    current
 }
 
 // The alignment after a value's comma, by its name.
@@ -92,22 +75,14 @@ pub enum AlignName {
 fn align_word(name: &[u8]) -> AlignName
     ensures { λ r. ⌜ r ≡ alignWordIs (now (name .entry)) ⌝ }
 {
-    if same_bytes(name, b"start") {
-        return AlignName::Start;
+    match index_of(b"start\ncenter\nend\nline-left\nline-right", name) {
+        0 => AlignName::Start,
+        1 => AlignName::Center,
+        2 => AlignName::End,
+        3 => AlignName::LineLeft,
+        4 => AlignName::LineRight,
+        _ => AlignName::Other,
     }
-    if same_bytes(name, b"center") {
-        return AlignName::Center;
-    }
-    if same_bytes(name, b"end") {
-        return AlignName::End;
-    }
-    if same_bytes(name, b"line-left") {
-        return AlignName::LineLeft;
-    }
-    if same_bytes(name, b"line-right") {
-        return AlignName::LineRight;
-    }
-    AlignName::Other
 }
 
 fn align_name(value: &[u8]) -> AlignName

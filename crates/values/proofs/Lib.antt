@@ -3,3 +3,4 @@ pub mod NumberLaws
 pub mod CutLaws
 pub mod StepLaws
 mod TimeLaws
+pub mod NameLaws

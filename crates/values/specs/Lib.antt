@@ -3,3 +3,4 @@ pub mod Runs
 pub mod Numbers
 pub mod Times
 pub mod Tokens
+pub mod Names

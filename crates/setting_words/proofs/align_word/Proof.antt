@@ -1,74 +1,58 @@
 -- `setting_words::align_word` meets its contract.
-use mathlib.Core.Path.{_≡_, sym, _∙_}
-use mathlib.Core.Bool.{false}
-use Rattle.format.specs.Bytes.{ascii}
-use Rattle.format.specs.Texts.{same}
+use mathlib.Core.Path.{_≡_, _∙_}
+use native.Mathlib.Omega.{arith}
+use Prim.Native.Nat.{ℕ}
+use mathlib.Core.List.{List, [], _∷_}
+use lib.ListN.{getD}
 use borrow.Author.Needs.{needs}
+use Rattle.setting_words.specs.Words.{alignWordIs}
+use Rattle.setting_words.specs.declared.AlignName.{AlignName}
+use Rattle.setting_words.specs.declared.AlignName.the-variants as AlignName
+use Rattle.format.specs.Bytes.{ascii}
+use Rattle.format.specs.Lines.{split, before, onFirst}
+use Rattle.values.proofs.NameLaws.{choice-at, no-choice}
 use Rattle.setting_words.proofs.align_word.Statement.{statement}
 use Rattle.setting_words.proofs.align_word.Tie as tie
 
-slice-aggregate-same-bytes : tie.Need-slice-aggregate-same-bytes
-slice-aggregate-same-bytes c = search needs
+abbrev names : List (List ℕ)
+names = ascii "start" ∷ ascii "center" ∷ ascii "end" ∷ ascii "line-left" ∷ ascii "line-right" ∷ []
 
-same-bytes-requires : tie.Need-same-bytes-requires
-same-bytes-requires c κs = search needs
+abbrev choices : List AlignName
+choices = AlignName.Start ∷ AlignName.Center ∷ AlignName.End ∷ AlignName.LineLeft ∷ AlignName.LineRight ∷ []
+
+slice-aggregate-index-of : tie.Need-slice-aggregate-index-of
+slice-aggregate-index-of c = search needs
+
+index-of-requires : tie.Need-index-of-requires
+index-of-requires c κs = search needs
+
+-- the choice that has this index
+indexed : (c : tie.After-index-of) → getD choices (c .index-of .result) AlignName.Other ≡ alignWordIs (c .before .before .before .args .name .now)
+unfolding split before onFirst
+indexed c =
+    let args = c .before .before .before .args in
+    choice-at names choices AlignName.Other (args .name .now) (c .index-of .result) (c .index-of .ensures)
 
 returns : tie.Need-returns
-returns c = rw (sym (c .before .same-bytes .ensures) ∙ c .if1 .taken)
-
-not-1 : (c : tie.Else1) → same (c .before .before .before .before .args .name .now) (ascii "start") ≡ false
-not-1 c = sym (c .before .same-bytes .ensures) ∙ c .if1 .left
-
-slice-aggregate-same-bytes-2 : tie.Need-slice-aggregate-same-bytes-2
-slice-aggregate-same-bytes-2 c = search needs
-
-same-bytes-requires-2 : tie.Need-same-bytes-requires-2
-same-bytes-requires-2 c κs = search needs
+returns c = rw (c .match .keys1) at (indexed (c .before))
 
 returns-2 : tie.Need-returns-2
-returns-2 c = rw (not-1 (c .before .before .before), sym (c .before .same-bytes2 .ensures) ∙ c .if2 .taken)
-
-not-2 : (c : tie.Else2) → same (c .before .before .before .before .before .before .before .args .name .now) (ascii "center") ≡ false
-not-2 c = sym (c .before .same-bytes2 .ensures) ∙ c .if2 .left
-
-slice-aggregate-same-bytes-3 : tie.Need-slice-aggregate-same-bytes-3
-slice-aggregate-same-bytes-3 c = search needs
-
-same-bytes-requires-3 : tie.Need-same-bytes-requires-3
-same-bytes-requires-3 c κs = search needs
+returns-2 c = rw (c .match .keys2) at (indexed (c .before))
 
 returns-3 : tie.Need-returns-3
-returns-3 c = rw (not-1 (c .before .before .before .before .before .before), not-2 (c .before .before .before), sym (c .before .same-bytes3 .ensures) ∙ c .if3 .taken)
-
-not-3 : (c : tie.Else3) → same (c .before .before .before .before .before .before .before .before .before .before .args .name .now) (ascii "end") ≡ false
-not-3 c = sym (c .before .same-bytes3 .ensures) ∙ c .if3 .left
-
-slice-aggregate-same-bytes-4 : tie.Need-slice-aggregate-same-bytes-4
-slice-aggregate-same-bytes-4 c = search needs
-
-same-bytes-requires-4 : tie.Need-same-bytes-requires-4
-same-bytes-requires-4 c κs = search needs
+returns-3 c = rw (c .match .keys3) at (indexed (c .before))
 
 returns-4 : tie.Need-returns-4
-returns-4 c = rw (not-1 (c .before .before .before .before .before .before .before .before .before), not-2 (c .before .before .before .before .before .before), not-3 (c .before .before .before), sym (c .before .same-bytes4 .ensures) ∙ c .if4 .taken)
-
-not-4 : (c : tie.Else4) → same (c .before .before .before .before .before .before .before .before .before .before .before .before .before .args .name .now) (ascii "line-left") ≡ false
-not-4 c = sym (c .before .same-bytes4 .ensures) ∙ c .if4 .left
-
-slice-aggregate-same-bytes-5 : tie.Need-slice-aggregate-same-bytes-5
-slice-aggregate-same-bytes-5 c = search needs
-
-same-bytes-requires-5 : tie.Need-same-bytes-requires-5
-same-bytes-requires-5 c κs = search needs
+returns-4 c = rw (c .match .keys4) at (indexed (c .before))
 
 returns-5 : tie.Need-returns-5
-returns-5 c = rw (not-1 (c .before .before .before .before .before .before .before .before .before .before .before .before), not-2 (c .before .before .before .before .before .before .before .before .before), not-3 (c .before .before .before .before .before .before), not-4 (c .before .before .before), sym (c .before .same-bytes5 .ensures) ∙ c .if5 .taken)
-
-not-5 : (c : tie.Else5) → same (c .before .before .before .before .before .before .before .before .before .before .before .before .before .before .before .before .args .name .now) (ascii "line-right") ≡ false
-not-5 c = sym (c .before .same-bytes5 .ensures) ∙ c .if5 .left
+returns-5 c = rw (c .match .keys5) at (indexed (c .before))
 
 returns-6 : tie.Need-returns-6
-returns-6 c = rw (not-1 (c .before .before .before .before .before .before .before .before .before .before .before .before), not-2 (c .before .before .before .before .before .before .before .before .before), not-3 (c .before .before .before .before .before .before), not-4 (c .before .before .before), not-5 c)
+returns-6 c =
+    let r = c .match .rest in
+    no-choice choices AlignName.Other (c .before .index-of .result) (omega (arith, r .1, r .0 .1, r .0 .0 .1, r .0 .0 .0 .1, r .0 .0 .0 .0 .1)) ∙ indexed (c .before)
 
 pub align-word-spec : {M : Type 1} → statement M
-align-word-spec = tie.close (tie.spec slice-aggregate-same-bytes same-bytes-requires returns slice-aggregate-same-bytes-2 same-bytes-requires-2 returns-2 slice-aggregate-same-bytes-3 same-bytes-requires-3 returns-3 slice-aggregate-same-bytes-4 same-bytes-requires-4 returns-4 slice-aggregate-same-bytes-5 same-bytes-requires-5 returns-5 returns-6)
+align-word-spec =
+    tie.close (tie.spec slice-aggregate-index-of index-of-requires returns returns-2 returns-3 returns-4 returns-5 returns-6)

@@ -1,180 +1,70 @@
 -- `nodes::tokens::kind_named` meets its contract.
-use mathlib.Core.Path.{sym, _∙_}
+use mathlib.Core.Path.{_≡_, _∙_}
+use native.Mathlib.Omega.{arith}
+use Prim.Native.Nat.{ℕ, _≤_}
+use mathlib.Core.List.{List, [], _∷_}
+use lib.ListN.{getD}
 use borrow.Author.Needs.{needs}
+use mathlib.Core.Option.{Option, none, some}
 use Rattle.format.specs.Trees.{kindNamed}
+use Rattle.format.specs.declared.kinds.NodeKind.{NodeKind}
+use Rattle.format.specs.declared.kinds.NodeKind.the-variants as NodeKind
+use Rattle.format.specs.Bytes.{ascii}
+use Rattle.format.specs.Lines.{split, before, onFirst}
+use Rattle.values.proofs.NameLaws.{choice-at, no-choice}
 use Rattle.nodes.proofs.tokens.kind_named.Statement.{statement}
 use Rattle.nodes.proofs.tokens.kind_named.Tie as tie
 
-slice-aggregate-same-bytes : tie.Need-slice-aggregate-same-bytes
-slice-aggregate-same-bytes c = search needs
+abbrev names : List (List ℕ)
+names = ascii "c" ∷ ascii "i" ∷ ascii "b" ∷ ascii "u" ∷ ascii "ruby" ∷ ascii "rt" ∷ ascii "v" ∷ ascii "lang" ∷ []
 
-same-bytes-requires : tie.Need-same-bytes-requires
-same-bytes-requires c κs = search needs
+abbrev choices : List (Option NodeKind)
+choices = some NodeKind.Class ∷ some NodeKind.Italic ∷ some NodeKind.Bold ∷ some NodeKind.Underline ∷ some NodeKind.Ruby ∷ some NodeKind.RubyText ∷ some NodeKind.Voice ∷ some NodeKind.Language ∷ []
+
+slice-aggregate-index-of : tie.Need-slice-aggregate-index-of
+slice-aggregate-index-of c = search needs
+
+index-of-requires : tie.Need-index-of-requires
+index-of-requires c κs = search needs
+
+-- the choice that has this index
+indexed : (c : tie.After-index-of) → getD choices (c .index-of .result) none ≡ kindNamed (c .before .before .before .args .name .now)
+unfolding split before onFirst kindNamed
+indexed c =
+    let args = c .before .before .before .args in
+    choice-at names choices none (args .name .now) (c .index-of .result) (c .index-of .ensures)
 
 returns : tie.Need-returns
-unfolding kindNamed
-returns c =
-    rw (sym (c .before .same-bytes .ensures) ∙ c .if1 .taken)
-
-slice-aggregate-same-bytes-2 : tie.Need-slice-aggregate-same-bytes-2
-slice-aggregate-same-bytes-2 c = search needs
-
-same-bytes-requires-2 : tie.Need-same-bytes-requires-2
-same-bytes-requires-2 c κs = search needs
+returns c = rw (c .match .keys1) at (indexed (c .before))
 
 returns-2 : tie.Need-returns-2
-unfolding kindNamed
-returns-2 c =
-    rw (
-      sym (c .before .before .before .before .same-bytes .ensures) ∙ c .before .before .before .if1 .left,
-      sym (c .before .same-bytes2 .ensures) ∙ c .if2 .taken,
-    )
-
-slice-aggregate-same-bytes-3 : tie.Need-slice-aggregate-same-bytes-3
-slice-aggregate-same-bytes-3 c = search needs
-
-same-bytes-requires-3 : tie.Need-same-bytes-requires-3
-same-bytes-requires-3 c κs = search needs
+returns-2 c = rw (c .match .keys2) at (indexed (c .before))
 
 returns-3 : tie.Need-returns-3
-unfolding kindNamed
-returns-3 c =
-    rw (
-      sym (c .before .before .before .before .before .before .before .same-bytes .ensures) ∙ c .before .before .before .before .before .before .if1 .left,
-      sym (c .before .before .before .before .same-bytes2 .ensures) ∙ c .before .before .before .if2 .left,
-      sym (c .before .same-bytes3 .ensures) ∙ c .if3 .taken,
-    )
-
-slice-aggregate-same-bytes-4 : tie.Need-slice-aggregate-same-bytes-4
-slice-aggregate-same-bytes-4 c = search needs
-
-same-bytes-requires-4 : tie.Need-same-bytes-requires-4
-same-bytes-requires-4 c κs = search needs
+returns-3 c = rw (c .match .keys3) at (indexed (c .before))
 
 returns-4 : tie.Need-returns-4
-unfolding kindNamed
-returns-4 c =
-    rw (
-      sym (c .before .before .before .before .before .before .before .before .before .before .same-bytes .ensures) ∙ c .before .before .before .before .before .before .before .before .before .if1 .left,
-      sym (c .before .before .before .before .before .before .before .same-bytes2 .ensures) ∙ c .before .before .before .before .before .before .if2 .left,
-      sym (c .before .before .before .before .same-bytes3 .ensures) ∙ c .before .before .before .if3 .left,
-      sym (c .before .same-bytes4 .ensures) ∙ c .if4 .taken,
-    )
-
-slice-aggregate-same-bytes-5 : tie.Need-slice-aggregate-same-bytes-5
-slice-aggregate-same-bytes-5 c = search needs
-
-same-bytes-requires-5 : tie.Need-same-bytes-requires-5
-same-bytes-requires-5 c κs = search needs
+returns-4 c = rw (c .match .keys4) at (indexed (c .before))
 
 returns-5 : tie.Need-returns-5
-unfolding kindNamed
-returns-5 c =
-    rw (
-      sym (c .before .before .before .before .before .before .before .before .before .before .before .before .before .same-bytes .ensures) ∙ c .before .before .before .before .before .before .before .before .before .before .before .before .if1 .left,
-      sym (c .before .before .before .before .before .before .before .before .before .before .same-bytes2 .ensures) ∙ c .before .before .before .before .before .before .before .before .before .if2 .left,
-      sym (c .before .before .before .before .before .before .before .same-bytes3 .ensures) ∙ c .before .before .before .before .before .before .if3 .left,
-      sym (c .before .before .before .before .same-bytes4 .ensures) ∙ c .before .before .before .if4 .left,
-      sym (c .before .same-bytes5 .ensures) ∙ c .if5 .taken,
-    )
-
-slice-aggregate-same-bytes-6 : tie.Need-slice-aggregate-same-bytes-6
-slice-aggregate-same-bytes-6 c = search needs
-
-same-bytes-requires-6 : tie.Need-same-bytes-requires-6
-same-bytes-requires-6 c κs = search needs
+returns-5 c = rw (c .match .keys5) at (indexed (c .before))
 
 returns-6 : tie.Need-returns-6
-unfolding kindNamed
-returns-6 c =
-    rw (
-      sym (c .before .before .before .before .before .before .before .before .before .before .before .before .before .before .before .before .same-bytes .ensures) ∙ c .before .before .before .before .before .before .before .before .before .before .before .before .before .before .before .if1 .left,
-      sym (c .before .before .before .before .before .before .before .before .before .before .before .before .before .same-bytes2 .ensures) ∙ c .before .before .before .before .before .before .before .before .before .before .before .before .if2 .left,
-      sym (c .before .before .before .before .before .before .before .before .before .before .same-bytes3 .ensures) ∙ c .before .before .before .before .before .before .before .before .before .if3 .left,
-      sym (c .before .before .before .before .before .before .before .same-bytes4 .ensures) ∙ c .before .before .before .before .before .before .if4 .left,
-      sym (c .before .before .before .before .same-bytes5 .ensures) ∙ c .before .before .before .if5 .left,
-      sym (c .before .same-bytes6 .ensures) ∙ c .if6 .taken,
-    )
-
-slice-aggregate-same-bytes-7 : tie.Need-slice-aggregate-same-bytes-7
-slice-aggregate-same-bytes-7 c = search needs
-
-same-bytes-requires-7 : tie.Need-same-bytes-requires-7
-same-bytes-requires-7 c κs = search needs
+returns-6 c = rw (c .match .keys6) at (indexed (c .before))
 
 returns-7 : tie.Need-returns-7
-unfolding kindNamed
-returns-7 c =
-    rw (
-      sym (c .before .before .before .before .before .before .before .before .before .before .before .before .before .before .before .before .before .before .before .same-bytes .ensures) ∙ c .before .before .before .before .before .before .before .before .before .before .before .before .before .before .before .before .before .before .if1 .left,
-      sym (c .before .before .before .before .before .before .before .before .before .before .before .before .before .before .before .before .same-bytes2 .ensures) ∙ c .before .before .before .before .before .before .before .before .before .before .before .before .before .before .before .if2 .left,
-      sym (c .before .before .before .before .before .before .before .before .before .before .before .before .before .same-bytes3 .ensures) ∙ c .before .before .before .before .before .before .before .before .before .before .before .before .if3 .left,
-      sym (c .before .before .before .before .before .before .before .before .before .before .same-bytes4 .ensures) ∙ c .before .before .before .before .before .before .before .before .before .if4 .left,
-      sym (c .before .before .before .before .before .before .before .same-bytes5 .ensures) ∙ c .before .before .before .before .before .before .if5 .left,
-      sym (c .before .before .before .before .same-bytes6 .ensures) ∙ c .before .before .before .if6 .left,
-      sym (c .before .same-bytes7 .ensures) ∙ c .if7 .taken,
-    )
-
-slice-aggregate-same-bytes-8 : tie.Need-slice-aggregate-same-bytes-8
-slice-aggregate-same-bytes-8 c = search needs
-
-same-bytes-requires-8 : tie.Need-same-bytes-requires-8
-same-bytes-requires-8 c κs = search needs
+returns-7 c = rw (c .match .keys7) at (indexed (c .before))
 
 returns-8 : tie.Need-returns-8
-unfolding kindNamed
-returns-8 c =
-    rw (
-      sym (c .before .before .before .before .before .before .before .before .before .before .before .before .before .before .before .before .before .before .before .before .before .before .same-bytes .ensures) ∙ c .before .before .before .before .before .before .before .before .before .before .before .before .before .before .before .before .before .before .before .before .before .if1 .left,
-      sym (c .before .before .before .before .before .before .before .before .before .before .before .before .before .before .before .before .before .before .before .same-bytes2 .ensures) ∙ c .before .before .before .before .before .before .before .before .before .before .before .before .before .before .before .before .before .before .if2 .left,
-      sym (c .before .before .before .before .before .before .before .before .before .before .before .before .before .before .before .before .same-bytes3 .ensures) ∙ c .before .before .before .before .before .before .before .before .before .before .before .before .before .before .before .if3 .left,
-      sym (c .before .before .before .before .before .before .before .before .before .before .before .before .before .same-bytes4 .ensures) ∙ c .before .before .before .before .before .before .before .before .before .before .before .before .if4 .left,
-      sym (c .before .before .before .before .before .before .before .before .before .before .same-bytes5 .ensures) ∙ c .before .before .before .before .before .before .before .before .before .if5 .left,
-      sym (c .before .before .before .before .before .before .before .same-bytes6 .ensures) ∙ c .before .before .before .before .before .before .if6 .left,
-      sym (c .before .before .before .before .same-bytes7 .ensures) ∙ c .before .before .before .if7 .left,
-      sym (c .before .same-bytes8 .ensures) ∙ c .if8 .taken,
-    )
+returns-8 c = rw (c .match .keys8) at (indexed (c .before))
 
 returns-9 : tie.Need-returns-9
-unfolding kindNamed
 returns-9 c =
-    rw (
-      sym (c .before .before .before .before .before .before .before .before .before .before .before .before .before .before .before .before .before .before .before .before .before .before .same-bytes .ensures) ∙ c .before .before .before .before .before .before .before .before .before .before .before .before .before .before .before .before .before .before .before .before .before .if1 .left,
-      sym (c .before .before .before .before .before .before .before .before .before .before .before .before .before .before .before .before .before .before .before .same-bytes2 .ensures) ∙ c .before .before .before .before .before .before .before .before .before .before .before .before .before .before .before .before .before .before .if2 .left,
-      sym (c .before .before .before .before .before .before .before .before .before .before .before .before .before .before .before .before .same-bytes3 .ensures) ∙ c .before .before .before .before .before .before .before .before .before .before .before .before .before .before .before .if3 .left,
-      sym (c .before .before .before .before .before .before .before .before .before .before .before .before .before .same-bytes4 .ensures) ∙ c .before .before .before .before .before .before .before .before .before .before .before .before .if4 .left,
-      sym (c .before .before .before .before .before .before .before .before .before .before .same-bytes5 .ensures) ∙ c .before .before .before .before .before .before .before .before .before .if5 .left,
-      sym (c .before .before .before .before .before .before .before .same-bytes6 .ensures) ∙ c .before .before .before .before .before .before .if6 .left,
-      sym (c .before .before .before .before .same-bytes7 .ensures) ∙ c .before .before .before .if7 .left,
-      sym (c .before .same-bytes8 .ensures) ∙ c .if8 .left,
-    )
+    let i = c .before .index-of .result in
+    let r = c .match .rest in
+    let l : 4 ≤ i = omega (arith, r .0 .0 .0 .0 .1, r .0 .0 .0 .0 .0 .1, r .0 .0 .0 .0 .0 .0 .1, r .0 .0 .0 .0 .0 .0 .0 .1) in
+    no-choice choices none i (omega (arith, l, r .1, r .0 .1, r .0 .0 .1, r .0 .0 .0 .1)) ∙ indexed (c .before)
 
 pub kind-named-spec : {M : Type 1} → statement M
 kind-named-spec =
-    tie.close
-    (tie.spec
-    slice-aggregate-same-bytes
-    same-bytes-requires
-    returns
-    slice-aggregate-same-bytes-2
-    same-bytes-requires-2
-    returns-2
-    slice-aggregate-same-bytes-3
-    same-bytes-requires-3
-    returns-3
-    slice-aggregate-same-bytes-4
-    same-bytes-requires-4
-    returns-4
-    slice-aggregate-same-bytes-5
-    same-bytes-requires-5
-    returns-5
-    slice-aggregate-same-bytes-6
-    same-bytes-requires-6
-    returns-6
-    slice-aggregate-same-bytes-7
-    same-bytes-requires-7
-    returns-7
-    slice-aggregate-same-bytes-8
-    same-bytes-requires-8
-    returns-8
-    returns-9)
+    tie.close (tie.spec slice-aggregate-index-of index-of-requires returns returns-2 returns-3 returns-4 returns-5 returns-6 returns-7 returns-8 returns-9)
