@@ -10,7 +10,7 @@ use lib.Seq.{take-add, drop-cons, drop-drop}
 use borrow.Author.Tests.{eqb-true, ne-eqb, lt-ltb, le-ltb, ltb-true, ltb-false}
 use Rattle.format.specs.Bytes.{ascii, lf}
 use Rattle.format.specs.Texts.{startsWith, isEmpty, all, run}
-use Rattle.format.specs.Lines.{split, before, onFirst}
+use Rattle.format.specs.Lines.{splitAt, split, before, onFirst}
 use Rattle.format.specs.Blocks.{Line, linesAt, holdsArrow}
 use Rattle.laws.proofs.Tests.{by-test, and-left, and-right, and-false, and-true}
 use Rattle.laws.proofs.Runs.{run-next, run-stop, run-end, run-length}
@@ -33,7 +33,7 @@ ltb-suc m n =
     (λ z. le-ltb (suc m) (suc n) (omega (arith, ltb-false m n z)) ∙ sym z)
 
 split-first : (s : List ℕ) → split s ≡ run inLine s ∷ others s
-unfolding split run others before onFirst
+unfolding splitAt run others before onFirst
 split-first [] = refl
 split-first (b ∷ s) =
     by-test (eqb b lf)

@@ -22,6 +22,11 @@ unfoldable pub refusedOnlyBy : List ℕ → Answer → Bool
 refusedOnlyBy numbers (accepted vs) = true
 refusedOnlyBy numbers (refused number vs) = has number numbers
 
+-- the number of a refusal; 0 where the answer accepts
+unfoldable pub refusalNumber : Answer → ℕ
+refusalNumber (accepted vs) = 0
+refusalNumber (refused number vs) = number
+
 -- the next answer where this one accepts
 unfoldable pub andThen : Answer → Answer → Answer
 andThen answer next = ifAccepted answer next answer

@@ -59,6 +59,9 @@ less = 0x3C
 abbrev pub greater : ℕ
 greater = 0x3E
 
+abbrev pub backslash : ℕ
+backslash = 0x5C
+
 -- U+FEFF at a file's start, in UTF-8
 abbrev pub byteOrderMark : List ℕ
 byteOrderMark = 0xEF ∷ 0xBB ∷ 0xBF ∷ []

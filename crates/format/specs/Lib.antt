@@ -34,6 +34,9 @@ pub mod Parts
 pub mod Writing
 pub mod Rewriting
 pub mod Replacing
+-- The program `mend` (10). `Fields`: numbers and escaped texts parted by tabs. `Requests`: the request line, and what mending answers.
+pub mod Fields
+pub mod Requests
 -- Cue text (30). `CueText`: the tokenizer, state by state. `Trees`: the nodes, their rows and strings, and what reading a cue text answers.
 pub mod CueText
 pub mod Trees

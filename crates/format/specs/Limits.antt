@@ -16,3 +16,10 @@ maxHours = 99_999
 -- refusal 5: a line number, either way from 0, and a region's count of lines
 abbrev pub maxLine : ℕ
 maxLine = 999_999
+
+-- bytes of a request line, without its LF, and of the raw file after it
+abbrev pub maxRequest : ℕ
+maxRequest = 4_096
+
+abbrev pub maxMended : ℕ
+maxMended = 16_384

@@ -8,24 +8,22 @@ use Rattle.format.specs.Contents.{contents}
 use Rattle.format.specs.Written.{written}
 use Rattle.format.specs.Rows.{cueRows, regionRows, styleRows}
 use Rattle.format.specs.Answers.{Answer, accepted, refused, ifAccepted, andThen, placed}
-use Rattle.format.specs.Converting.{converting}
-use Rattle.format.specs.Reading.{reading, afterReading}
+use Rattle.format.specs.Reading.{readingRaw}
 use Rattle.format.specs.Writing.{writing}
 use Rattle.format.specs.declared.Rewriting.{Rewriting}
 use Rattle.format.specs.declared.Rewriting.the-variants as Rewriting
 
--- the number of each case; the program prints no value beside it
+-- the number and the values of each case
 unfoldable pub rewritingIs : Rewriting → Answer
 rewritingIs (Rewriting.File n) = accepted (n ∷ [])
-rewritingIs (Rewriting.Refused number) = refused number []
-
-unfoldable pub numberOnly : Answer → Answer
-numberOnly (accepted vs) = accepted vs
-numberOnly (refused number vs) = refused number []
-
-unfoldable pub refusalNumber : Answer → ℕ
-refusalNumber (accepted vs) = 0
-refusalNumber (refused number vs) = number
+rewritingIs Rewriting.RawTooLong = refused 1 []
+rewritingIs (Rewriting.RoomTooShort n) = refused 2 (n ∷ [])
+rewritingIs Rewriting.NoSignature = refused 4 []
+rewritingIs Rewriting.OverLimit = refused 5 []
+rewritingIs (Rewriting.TablesTooShort cues regions styles) = refused 6 (cues ∷ regions ∷ styles ∷ [])
+rewritingIs (Rewriting.NotWritable list index test) = refused 8 (list ∷ index ∷ test ∷ [])
+rewritingIs Rewriting.FileTooLong = refused 1 []
+rewritingIs (Rewriting.OutTooShort n) = refused 10 (n ∷ [])
 
 -- the lengths of the lent room and tables
 pub record Lent : Type 0 where
@@ -46,18 +44,14 @@ writingOf s out = writing s (styleRows (lists s .styles)) (regionRows (lists s .
 unfoldable pub rewrittenFile : List ℕ → List ℕ
 rewrittenFile s = written (contents (lists s))
 
-unfoldable pub readAndWrite : List ℕ → Lent → Answer
-readAndWrite s lent = andThen (reading s (lent .cues) (lent .regions) (lent .styles)) (writingOf s (lent .out))
+-- converting and reading, in that room and those tables
+unfoldable pub readingIn : List ℕ → Lent → Answer
+readingIn raw lent = readingRaw raw (lent .text) (lent .cues) (lent .regions) (lent .styles)
 
--- what rewriting answers
+-- what rewriting answers; a table after it is as after `readingIn`, for the room and the tables are scratch to this call
 unfoldable pub rewriting : List ℕ → Lent → Answer
-rewriting raw lent = andThen (converting raw (lent .text)) (readAndWrite (plainText raw) lent)
+rewriting raw lent = andThen (readingIn raw lent) (writingOf (plainText raw) (lent .out))
 
--- the output room after it, and a table, whose rows for the text these are
+-- the output room after it
 unfoldable pub rewrittenRoom : List ℕ → Lent → List ℕ → List ℕ
 rewrittenRoom raw lent out = ifAccepted (rewriting raw lent) (placed (rewrittenFile (plainText raw)) out) out
-
-unfoldable pub afterRewriting {ℓ} : {A : Type ℓ} → List ℕ → Lent → List A → List A → List A
-afterRewriting raw lent rows table =
-    ifAccepted (converting raw (lent .text))
-    (afterReading (reading (plainText raw) (lent .cues) (lent .regions) (lent .styles)) rows table) table

@@ -53,6 +53,30 @@ pub enum Reading {
     },
 }
 
+// What converting a raw file and reading its text answers.
+pub enum RawReading {
+    // The lists stand at the tables' starts, with this many entries.
+    Lists {
+        cues: usize,
+        regions: usize,
+        styles: usize,
+    },
+    // Refusal 1: the raw file is over MAX_FILE bytes.
+    RawTooLong,
+    // Refusal 2: the text room is shorter than the text, which needs this many bytes.
+    RoomTooShort(usize),
+    // Refusal 4.
+    NoSignature,
+    // Refusal 5: a number is above its limit.
+    OverLimit,
+    // Refusal 6: a list has more entries than its table; all counts.
+    TablesTooShort {
+        cues: usize,
+        regions: usize,
+        styles: usize,
+    },
+}
+
 // What asking for a part of a cue answers.
 pub enum PartAnswer {
     // The part is handed back.
@@ -83,8 +107,30 @@ pub enum Writing {
 pub enum Rewriting {
     // The written form of what the file reads as stands at the start of the output room, this many bytes long.
     File(usize),
-    // The first refusal of converting, reading or writing.
-    Refused(u64),
+    // Refusal 1: the raw file is over MAX_FILE bytes.
+    RawTooLong,
+    // Refusal 2: the text room is shorter than the text, which needs this many bytes.
+    RoomTooShort(usize),
+    // Refusal 4.
+    NoSignature,
+    // Refusal 5: a number is above its limit.
+    OverLimit,
+    // Refusal 6: a list has more entries than its table; all counts.
+    TablesTooShort {
+        cues: usize,
+        regions: usize,
+        styles: usize,
+    },
+    // Refusal 8: which list (0 styles, 1 regions, 2 cues), the index in it, and the first failing test.
+    NotWritable {
+        list: usize,
+        index: usize,
+        test: usize,
+    },
+    // Refusal 1: the file to be made is over MAX_FILE bytes.
+    FileTooLong,
+    // Refusal 10: the output room is shorter than the file, which needs this many bytes.
+    OutTooShort(usize),
 }
 
 // What replacing one cue of a raw file answers.
@@ -109,6 +155,14 @@ pub enum Replacing {
     FileTooLong,
     // Refusal 10: the output room is shorter than the new file, which needs this many bytes.
     OutTooShort(usize),
+}
+
+// What mending a raw file by a request line answers.
+pub enum Mending {
+    // The line is no request, or its settings hold a number above its limit.
+    BadRequest,
+    // What replacing the cue that the line has answers; refusal 1 too where the raw file is over 16,384 bytes.
+    Asked(Replacing),
 }
 
 // What reading one cue's text into nodes answers.

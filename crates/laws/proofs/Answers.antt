@@ -16,7 +16,7 @@ use Rattle.format.specs.Blocks.{hasSignature}
 use Rattle.format.specs.Lists.{items, lists, anyOver}
 use Rattle.format.specs.Answers.{Answer, accepted, refused, refusedOnlyBy, ifAccepted, andThen, fileAnswer, placed}
 use Rattle.format.specs.Converting.{converting, convertedRoom, plainnessIs, testing}
-use Rattle.format.specs.Reading.{reading, ReadsAgain}
+use Rattle.format.specs.Reading.{readingRaw, reading, ReadsAgain}
 use Rattle.format.specs.declared.Plainness.the-variants as Plainness
 use Rattle.laws.proofs.Tests.{by-test}
 use Rattle.laws.proofs.PlainText.{plainText-length, plainText-plain}
@@ -90,7 +90,7 @@ all-plain s e =
 -- converting a file of this length and reading a text with the signature and no number above its limit
 pub reads-again :
     (raw : List ℕ) → length raw ≤ maxFile → hasSignature (plainText raw) ≡ true → anyOver (items (plainText raw)) ≡ false → ReadsAgain raw
-unfolding refusedOnlyBy andThen ifAccepted converting reading has all
+unfolding refusedOnlyBy andThen ifAccepted converting readingRaw reading has all
 reads-again raw l signed within room cues regions styles =
     let s = plainText raw in
     let size : ltb maxText (length s) ≡ false = le-ltb maxText (length s) (omega (arith, plainText-length raw)) in

@@ -8,7 +8,7 @@ use lib.Dec.{eqb}
 use borrow.Author.Tests.{eqb-true, not-true}
 use Rattle.format.specs.Bytes.{lf}
 use Rattle.format.specs.Plain.{dropBom, newlines, repair, toPlain, plainText}
-use Rattle.format.specs.Lines.{onFirst, before, split, afterLineEnds, join}
+use Rattle.format.specs.Lines.{onFirst, before, splitAt, split, afterLineEnds, join}
 use Rattle.laws.proofs.Tests.{and-left, and-right, by-test, absent}
 use Rattle.laws.proofs.Repair.{repair-line, repair-absent}
 
@@ -18,14 +18,14 @@ unbroken [] = true
 unbroken (l ∷ ls) = absent lf l && unbroken ls
 
 pub split-line : (l t : List ℕ) → absent lf l ≡ true → split (l ++ lf ∷ t) ≡ l ∷ split t
-unfolding split before absent onFirst
+unfolding splitAt before absent onFirst
 split-line [] t a = refl
 split-line (b ∷ l) t a =
     rw
     (not-true (eqb b lf) (and-left (not (eqb b lf)) (absent lf l) a), split-line l t (and-right (not (eqb b lf)) (absent lf l) a))
 
 pub split-last : (l : List ℕ) → absent lf l ≡ true → split l ≡ l ∷ []
-unfolding split before absent onFirst
+unfolding splitAt before absent onFirst
 split-last [] a = refl
 split-last (b ∷ l) a =
     rw (not-true (eqb b lf) (and-left (not (eqb b lf)) (absent lf l) a), split-last l (and-right (not (eqb b lf)) (absent lf l) a))
@@ -47,7 +47,7 @@ pub record Split (s : List ℕ) : Type 0 where
   pub whole : unbroken (first ∷ rest) ≡ true
 
 pub splits : (s : List ℕ) → Split s
-unfolding split before join afterLineEnds unbroken absent onFirst
+unfolding splitAt before join afterLineEnds unbroken absent onFirst
 splits [] = record { first = []; rest = []; is = refl; joined = refl; whole = refl }
 splits (b ∷ s) =
     let t = splits s in

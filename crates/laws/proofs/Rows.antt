@@ -11,7 +11,7 @@ use borrow.Author.Tests.{lt-ltb, ltb-true, ne-eqb}
 use Rattle.format.specs.Limits.{maxText}
 use Rattle.format.specs.Bytes.{lf}
 use Rattle.format.specs.Texts.{Part, emptyPart, isEmpty, bytesAt}
-use Rattle.format.specs.Lines.{split, before, onFirst}
+use Rattle.format.specs.Lines.{splitAt, split, before, onFirst}
 use Rattle.format.specs.CueSettings.{spanIs}
 use Rattle.format.specs.RegionSettings.{RegionValues, lastNamed, regionIs}
 use Rattle.format.specs.Blocks.{Line as TextLine, linesAt, Collecting, between, header, inside, stops, begin, goOn, collected, ended, next, blocksFrom, afterSignature, blocks}
@@ -150,7 +150,7 @@ read-inverse rs c h l = cue-inverse (entryIs rs c) h (region-indexed rs (c .regi
 
 -- a text has no more lines than bytes and one, no more blocks than lines, and no more regions than blocks
 split-length : (s : List ℕ) → length (split s) ≤ suc (length s)
-unfolding split before onFirst
+unfolding splitAt before onFirst
 split-length [] = omega arith
 split-length (b ∷ s) =
     by-test (eqb b lf)

@@ -11,7 +11,7 @@ use lib.Seq.{take-add, getD-drop, drop-drop}
 use borrow.Author.Tests.{eqb-true, eqb-false, ne-eqb, lt-ltb}
 use Rattle.format.specs.Bytes.{lf}
 use Rattle.format.specs.Texts.{same}
-use Rattle.format.specs.Lines.{split, before, onFirst}
+use Rattle.format.specs.Lines.{splitAt, split, before, onFirst}
 use Rattle.format.specs.CueSettings.{noSpan}
 use Rattle.format.specs.RegionSettings.{laterOr, lastNamed}
 use Rattle.format.specs.Blocks.{Line, hasSignature, blocks}
@@ -37,7 +37,7 @@ use Rattle.places.specs.Finding.{withItem, FoundIn}
 
 -- a text has one line more than LF
 ends-split : (x : List ℕ) → length (split x) ≡ suc (lineEnds x)
-unfolding lineEnds split before onFirst
+unfolding lineEnds splitAt before onFirst
 ends-split [] = refl
 ends-split (b ∷ x) =
     let t = splits x in

@@ -10,7 +10,7 @@ use lib.Seq.{take-at, drop-at, getD-append-add}
 use borrow.Author.Tests.{eqb-true, ltb-true, ltb-false, not-false}
 use Rattle.format.specs.Bytes.{ascii, lf}
 use Rattle.format.specs.Texts.{startsWith, isEmpty}
-use Rattle.format.specs.Lines.{split, onFirst, before}
+use Rattle.format.specs.Lines.{splitAt, split, onFirst, before}
 use Rattle.format.specs.Blocks.{Line, hasSignature, linesAt, between, header, inside, stops, collected, blocksFrom}
 use Rattle.format.specs.Blocks.{afterSignature, blocks, bytesOf}
 use Rattle.format.specs.Lists.{Cue, Item, nothing, cue, style, region, meaning, isCue, itemsFrom, items, Lists, into, listed, lists, itemOver, anyOver}
@@ -270,7 +270,7 @@ cue-block-at s number h =
 
 -- the signature's line is not empty
 signature-line : (s l : List ℕ) (ls : List (List ℕ)) → hasSignature s ≡ true → split s ≡ l ∷ ls → isEmpty l ≡ false
-unfolding hasSignature startsWith split before onFirst isEmpty
+unfolding hasSignature startsWith splitAt before onFirst isEmpty
 signature-line [] l ls h e = absurd (false≢true h)
 signature-line (b ∷ s) l ls h e =
     let t = splits s in

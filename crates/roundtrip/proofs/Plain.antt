@@ -10,7 +10,7 @@ use lib.ListN.{length, getD, take, drop, length-append, take-append-drop}
 use borrow.Author.Tests.{ltb-true, ltb-false, eqb-false, not-true}
 use Rattle.format.specs.Bytes.{ascii, digit, nul, cr, lf, space, comma, hyphen, colon}
 use Rattle.format.specs.Texts.{isEmpty, all, bytesAt}
-use Rattle.format.specs.Lines.{onFirst, before, split, afterLineEnds, join}
+use Rattle.format.specs.Lines.{onFirst, before, splitAt, split, afterLineEnds, join}
 use Rattle.format.specs.Plain.{sequence, repair, plainStart, plainFrom, firstNotPlain, Plain}
 use Rattle.format.specs.Contents.{CueContents, RegionContents, Contents, contentsOfRows, cueOfEntry, regionOfEntry, cueOfRow, regionOfRow, styleOfRow}
 use Rattle.format.specs.Rows.{cueCodesNamed, regionCodesNamed, cueEntry, regionEntry, styleEntry}
@@ -140,7 +140,7 @@ absent-first c b [] n h = (rw n, tt)
 absent-first c b (l ∷ ls) n h = (rw n (h .0), h .1)
 
 pub absent-split : (c : ℕ) (s : List ℕ) → absent c s ≡ true → All (λ l. absent c l ≡ true) (split s)
-unfolding split before absent
+unfolding splitAt before absent
 absent-split c [] a = (refl, tt)
 absent-split c (b ∷ s) a =
     let rest = absent-split c s (and-right (not (eqb b c)) (absent c s) a) in

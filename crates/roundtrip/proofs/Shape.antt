@@ -11,7 +11,7 @@ use lib.ListN.{length, length-append}
 use borrow.Author.Tests.{eqb-true, eq-eqb, not-true}
 use Rattle.format.specs.Bytes.{ascii, white, lf, space, colon}
 use Rattle.format.specs.Texts.{Part, emptyPart, startsWith, isEmpty, all, run, has, beforeFirst, afterFirst}
-use Rattle.format.specs.Lines.{split, afterLineEnds, join}
+use Rattle.format.specs.Lines.{splitAt, split, afterLineEnds, join}
 use Rattle.format.specs.Tokens.{inToken, onToken, beforeTokens, tokens, nameOf, valueOf}
 use Rattle.format.specs.Blocks.{Line, hasSignature, seventh, linesAt, linePart, holdsArrow, Collecting, between, header, inside, canTime, stops, begin, goOn}
 use Rattle.format.specs.Blocks.{collected, ended, next, blocksFrom, afterSignature, blocks, bytesOf, joined}
@@ -32,7 +32,7 @@ not-left a b e = not-true a (and-left (not a) b e)
 
 -- lines ended by LF, and the empty line after the last of them
 pub split-lineEnded : (ls : List (List ℕ)) → unbroken ls ≡ true → split (lineEnded ls) ≡ ls ++ [] ∷ []
-unfolding split lineEnded unbroken
+unfolding splitAt lineEnded unbroken
 split-lineEnded [] a = refl
 split-lineEnded (l ∷ ls) a =
     split-line l (lineEnded ls) (and-left (absent lf l) (unbroken ls) a)

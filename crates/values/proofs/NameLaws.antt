@@ -11,7 +11,7 @@ use lib.Seq.{drop-drop}
 use borrow.Author.Tests.{lt-ltb, le-ltb, ltb-true, ltb-false}
 use Rattle.format.specs.Bytes.{lf}
 use Rattle.format.specs.Texts.{run, same}
-use Rattle.format.specs.Lines.{split, before, onFirst}
+use Rattle.format.specs.Lines.{splitAt, split, before, onFirst}
 use Rattle.laws.proofs.Tests.{by-test}
 use Rattle.laws.proofs.Runs.{RunAt}
 use Rattle.values.specs.Names.{indexIn}
@@ -30,7 +30,7 @@ from-cons b s k =
     (λ z. rw (z, le-ltb (length (b ∷ s)) (suc k + 1) (omega (arith, ltb-false (length s) (k + 1) z)), add-one (suc k), add-one k))
 
 first-is : (s : List ℕ) → split s ≡ firstLine s ∷ linesFrom s (length (firstLine s) + 1)
-unfolding split before onFirst run
+unfolding splitAt before onFirst run
 first-is [] = refl
 first-is (b ∷ s) =
     by-test (eqb b lf)

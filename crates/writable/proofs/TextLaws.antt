@@ -10,7 +10,7 @@ use lib.Seq.{drop-cons}
 use borrow.Author.Tests.{eq-eqb, ne-eqb}
 use Rattle.format.specs.Bytes.{lf, hyphen, greater}
 use Rattle.format.specs.Texts.{startsWith, isEmpty, all}
-use Rattle.format.specs.Lines.{onFirst, before, split}
+use Rattle.format.specs.Lines.{onFirst, before, splitAt, split}
 use Rattle.format.specs.Blocks.{holdsArrow}
 use Rattle.format.specs.Writable.{noneEmpty}
 
@@ -44,12 +44,12 @@ module _ (s : List ℕ) (i : ℕ) (l : i < length s) where
       → fresh ≡ t
       → getD s i 0 ≡ lf
       → noneEmptyFrom fresh (split (drop i s)) ≡ not t && noneEmptyFrom true (split (drop (i + 1) s))
-  unfolding noneEmptyFrom noneEmpty split before isEmpty
+  unfolding noneEmptyFrom noneEmpty splitAt before isEmpty
   line-ends fresh true f e = rw (f, here, eq-eqb (getD s i 0) lf e)
   line-ends fresh false f e = rw (f, here, eq-eqb (getD s i 0) lf e)
 
   pub in-line : (fresh : Bool) → (getD s i 0 ≡ lf → ⊥) → noneEmptyFrom fresh (split (drop i s)) ≡ noneEmptyFrom false (split (drop (i + 1) s))
-  unfolding split before
+  unfolding splitAt before
   in-line fresh e = rw (here, ne-eqb (getD s i 0) lf e) (from-in-line fresh (getD s i 0) (split (drop (i + 1) s)))
 
   pub arrow-ends : (n : ℕ) → n ≡ 2 → getD s i 0 ≡ greater → arrowFrom n (drop i s) ≡ true
@@ -85,7 +85,7 @@ module _ (s : List ℕ) (i : ℕ) (l : length s ≤ i) where
   all-end p = rw (drop-of-length-le s l) refl
 
   pub lines-end : (fresh : Bool) → noneEmptyFrom fresh (split (drop i s)) ≡ not fresh
-  unfolding noneEmptyFrom noneEmpty split isEmpty
+  unfolding noneEmptyFrom noneEmpty splitAt isEmpty
   lines-end true = rw (drop-of-length-le s l) refl
   lines-end false = rw (drop-of-length-le s l) refl
 

@@ -9,7 +9,7 @@ use lib.ListN.{getD}
 use borrow.Author.Needs.{needs}
 use Rattle.format.specs.Bytes.{ascii}
 use Rattle.format.specs.Texts.{same}
-use Rattle.format.specs.Lines.{split, before, onFirst}
+use Rattle.format.specs.Lines.{splitAt, split, before, onFirst}
 use Rattle.format.specs.Numbers.{percentage, lineCount}
 use Rattle.format.specs.RegionSettings.{linesChange, point, regionNamed}
 use Rattle.format.specs.declared.regions.RegionChange.{RegionChange}
@@ -47,7 +47,7 @@ indexed :
     (c : tie.After-index-of)
     → let args = c .before .before .before .before .args in
     getD (choices (args .value .now)) (c .index-of .result) RegionChange.Nothing ≡ regionNamed (args .name .now) (args .value .now)
-unfolding split before onFirst regionNamed
+unfolding splitAt before onFirst regionNamed
 indexed c =
     let args = c .before .before .before .before .args in
     let name = args .name .now in

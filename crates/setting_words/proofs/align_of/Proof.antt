@@ -9,7 +9,7 @@ use Rattle.format.specs.CueSettings.{alignment}
 use Rattle.format.specs.declared.settings.Align.{Align}
 use Rattle.format.specs.declared.settings.Align.the-variants as Align
 use Rattle.format.specs.Bytes.{ascii}
-use Rattle.format.specs.Lines.{split, before, onFirst}
+use Rattle.format.specs.Lines.{splitAt, split, before, onFirst}
 use Rattle.values.proofs.NameLaws.{choice-at, no-choice}
 use Rattle.setting_words.proofs.align_of.Statement.{statement}
 use Rattle.setting_words.proofs.align_of.Tie as tie
@@ -31,7 +31,7 @@ indexed :
     (c : tie.After-index-of)
     → let args = c .before .before .before .args in
     getD choices (c .index-of .result) (args .current) ≡ alignment (args .value .now) (args .current)
-unfolding split before onFirst alignment
+unfolding splitAt before onFirst alignment
 indexed c =
     let args = c .before .before .before .args in
     choice-at names choices (args .current) (args .value .now) (c .index-of .result) (c .index-of .ensures)

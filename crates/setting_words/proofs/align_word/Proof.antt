@@ -9,7 +9,7 @@ use Rattle.setting_words.specs.Words.{alignWordIs}
 use Rattle.setting_words.specs.declared.AlignName.{AlignName}
 use Rattle.setting_words.specs.declared.AlignName.the-variants as AlignName
 use Rattle.format.specs.Bytes.{ascii}
-use Rattle.format.specs.Lines.{split, before, onFirst}
+use Rattle.format.specs.Lines.{splitAt, split, before, onFirst}
 use Rattle.values.proofs.NameLaws.{choice-at, no-choice}
 use Rattle.setting_words.proofs.align_word.Statement.{statement}
 use Rattle.setting_words.proofs.align_word.Tie as tie
@@ -28,7 +28,7 @@ index-of-requires c κs = search needs
 
 -- the choice that has this index
 indexed : (c : tie.After-index-of) → getD choices (c .index-of .result) AlignName.Other ≡ alignWordIs (c .before .before .before .args .name .now)
-unfolding split before onFirst
+unfolding splitAt before onFirst
 indexed c =
     let args = c .before .before .before .args in
     choice-at names choices AlignName.Other (args .name .now) (c .index-of .result) (c .index-of .ensures)

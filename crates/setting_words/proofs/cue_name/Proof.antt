@@ -9,7 +9,7 @@ use Rattle.setting_words.specs.Words.{cueNameIs}
 use Rattle.setting_words.specs.declared.CueName.{CueName}
 use Rattle.setting_words.specs.declared.CueName.the-variants as CueName
 use Rattle.format.specs.Bytes.{ascii}
-use Rattle.format.specs.Lines.{split, before, onFirst}
+use Rattle.format.specs.Lines.{splitAt, split, before, onFirst}
 use Rattle.values.proofs.NameLaws.{choice-at, no-choice}
 use Rattle.setting_words.proofs.cue_name.Statement.{statement}
 use Rattle.setting_words.proofs.cue_name.Tie as tie
@@ -28,7 +28,7 @@ index-of-requires c κs = search needs
 
 -- the choice that has this index
 indexed : (c : tie.After-index-of) → getD choices (c .index-of .result) CueName.Other ≡ cueNameIs (c .before .before .before .args .name .now)
-unfolding split before onFirst
+unfolding splitAt before onFirst
 indexed c =
     let args = c .before .before .before .args in
     choice-at names choices CueName.Other (args .name .now) (c .index-of .result) (c .index-of .ensures)

@@ -10,7 +10,7 @@ use Rattle.format.specs.Trees.{kindNamed}
 use Rattle.format.specs.declared.kinds.NodeKind.{NodeKind}
 use Rattle.format.specs.declared.kinds.NodeKind.the-variants as NodeKind
 use Rattle.format.specs.Bytes.{ascii}
-use Rattle.format.specs.Lines.{split, before, onFirst}
+use Rattle.format.specs.Lines.{splitAt, split, before, onFirst}
 use Rattle.values.proofs.NameLaws.{choice-at, no-choice}
 use Rattle.nodes.proofs.tokens.kind_named.Statement.{statement}
 use Rattle.nodes.proofs.tokens.kind_named.Tie as tie
@@ -29,7 +29,7 @@ index-of-requires c κs = search needs
 
 -- the choice that has this index
 indexed : (c : tie.After-index-of) → getD choices (c .index-of .result) none ≡ kindNamed (c .before .before .before .args .name .now)
-unfolding split before onFirst kindNamed
+unfolding splitAt before onFirst kindNamed
 indexed c =
     let args = c .before .before .before .args in
     choice-at names choices none (args .name .now) (c .index-of .result) (c .index-of .ensures)
