@@ -13,8 +13,6 @@ use Rattle.format.specs.Answers.{Answer, accepted, refused, refusedOnlyB
 use Rattle.format.specs.Converting.{converting}
 use Rattle.format.specs.declared.Reading.{Reading}
 use Rattle.format.specs.declared.Reading.the-variants as Reading
-use Rattle.format.specs.declared.RawReading.{RawReading}
-use Rattle.format.specs.declared.RawReading.the-variants as RawReading
 
 -- the number and the values of each case; the counts are of cues, regions, styles
 unfoldable pub readingIs : Reading → Answer
@@ -43,15 +41,6 @@ reading s cues regions styles =
 -- converting a raw file and then reading its text, the text room having this length: the first refusal of both, else the counts
 unfoldable pub readingRaw : List ℕ → ℕ → ℕ → ℕ → ℕ → Answer
 readingRaw raw room cues regions styles = andThen (converting raw room) (reading (plainText raw) cues regions styles)
-
--- the number and the values of each case; a text that was converted is not too long, and is plain
-unfoldable pub rawReadingIs : RawReading → Answer
-rawReadingIs (RawReading.Lists cues regions styles) = accepted (cues ∷ regions ∷ styles ∷ [])
-rawReadingIs RawReading.RawTooLong = refused 1 []
-rawReadingIs (RawReading.RoomTooShort n) = refused 2 (n ∷ [])
-rawReadingIs RawReading.NoSignature = refused 4 []
-rawReadingIs RawReading.OverLimit = refused 5 []
-rawReadingIs (RawReading.TablesTooShort cues regions styles) = refused 6 (cues ∷ regions ∷ styles ∷ [])
 
 -- "Converting the … file and reading the text so made is refused by no number but 2 and 6."
 abbrev pub ReadsAgain : List ℕ → Type 0

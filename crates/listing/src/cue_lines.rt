@@ -53,12 +53,11 @@ fn print_cue(text: &[u8], cues: &[CueRow], number: usize)
     output::print(b"\n");
 }
 
-// The first `count` cues, a line each.
-pub fn print_all(text: &[u8], cues: &[CueRow], count: usize)
-    requires { ⌜ count ≤ length (now cues) ⌝ }
-{
+// The first `count` cues, a line each; all where there are fewer.
+pub(crate) fn print_all(text: &[u8], cues: &[CueRow], count: usize) {
+    let end = values::least(count, cues.len());
     let mut i = 0;
-    while i < count {
+    while i < end {
         print_cue(text, cues, i);
         i += 1;
     }

@@ -4,6 +4,14 @@ use format::Reading;
 use format::rows::CueRow;
 use format::rows::RegionRow;
 use format::rows::StyleRow;
+ghost use mathlib.Core.Path.{_≡_};
+ghost use lib.ListN.{length};
+ghost use Rattle.format.specs.Plain.{plainText};
+ghost use Rattle.format.specs.Lists.{lists};
+ghost use Rattle.format.specs.Rows.{cueRows, regionRows, styleRows};
+ghost use Rattle.format.specs.Answers.{refusalNumber};
+ghost use Rattle.format.specs.Converting.{convertedRoom};
+ghost use Rattle.format.specs.Reading.{readingIs, reading, readingRaw, afterReading};
 
 mod cue_lines;
 mod node_lines;
@@ -12,8 +20,11 @@ pub mod output;
 mod region_lines;
 mod style_lines;
 
-// The line of a refusal.
+// The line of a refusal; none for 0, which is no refusal's number.
 pub fn refuse(number: u64) {
+    if number == 0 {
+        return;
+    }
     output::print(b"refused");
     output::number(number);
     output::print(b"\n");
@@ -29,28 +40,40 @@ pub fn refuse_more(file: i32) -> bool {
     true
 }
 
-// The line of a refusal to read; nothing for lists.
-fn refuse_reading(answer: Reading) {
+// The number of a refusal to read; 0 for lists.
+fn reading_number(answer: Reading) -> u64
+    ensures { λ r. ⌜ r ≡ refusalNumber (readingIs answer) ⌝ }
+{
     match answer {
         Reading::Lists {
             cues: _,
             regions: _,
             styles: _,
-        } => {}
-        Reading::TextTooLong => refuse(1),
-        Reading::TextNotPlainAt(_) => refuse(3),
-        Reading::NoSignature => refuse(4),
-        Reading::OverLimit => refuse(5),
+        } => 0,
+        Reading::TextTooLong => 1,
+        Reading::TextNotPlainAt(_) => 3,
+        Reading::NoSignature => 4,
+        Reading::OverLimit => 5,
         Reading::TablesTooShort {
             cues: _,
             regions: _,
             styles: _,
-        } => refuse(6),
+        } => 6,
     }
 }
 
-// The lines of a plain text.
-fn show_text(text: &[u8], cues: &mut [CueRow], regions: &mut [RegionRow], styles: &mut [StyleRow]) {
+// Prints the lines of a plain text. Hands back the number of a refusal to read, for which nothing is printed, and 0 where there is none.
+fn show_text(
+    text: &[u8],
+    cues: &mut [CueRow],
+    regions: &mut [RegionRow],
+    styles: &mut [StyleRow],
+) -> u64
+    ensures number { λ r. ⌜ r ≡ refusalNumber (reading (now (text .entry)) (length (now (cues .entry))) (length (now (regions .entry))) (length (now (styles .entry)))) ⌝ }
+    ensures cues { λ _. ⌜ now (cues .exit) ≡ afterReading (reading (now (text .entry)) (length (now (cues .entry))) (length (now (regions .entry))) (length (now (styles .entry)))) (cueRows (lists (now (text .entry)) .regions) (lists (now (text .entry)) .cues)) (now (cues .entry)) ⌝ }
+    ensures regions { λ _. ⌜ now (regions .exit) ≡ afterReading (reading (now (text .entry)) (length (now (cues .entry))) (length (now (regions .entry))) (length (now (styles .entry)))) (regionRows (lists (now (text .entry)) .regions)) (now (regions .entry)) ⌝ }
+    ensures styles { λ _. ⌜ now (styles .exit) ≡ afterReading (reading (now (text .entry)) (length (now (cues .entry))) (length (now (regions .entry))) (length (now (styles .entry)))) (styleRows (lists (now (text .entry)) .styles)) (now (styles .entry)) ⌝ }
+{
     let answer = reader::read(text, cues, regions, styles);
     let Reading::Lists {
         cues: c,
@@ -58,30 +81,37 @@ fn show_text(text: &[u8], cues: &mut [CueRow], regions: &mut [RegionRow], styles
         styles: s,
     } = answer
     else {
-        refuse_reading(answer);
-        return;
+        return reading_number(answer);
     };
     style_lines::print_all(text, styles, s);
     region_lines::print_all(text, regions, r);
     cue_lines::print_all(text, cues, c);
+    0
 }
 
-// The lines of a raw file. Its plain text goes to `text`, and the lists to the tables.
+// Prints the lines of a raw file. Its plain text goes to `text`, and the lists to the tables. Hands back the number of the first refusal of
+// converting and reading, for which nothing is printed, and 0 where there is none.
 pub fn show(
     raw: &[u8],
     text: &mut [u8],
     cues: &mut [CueRow],
     regions: &mut [RegionRow],
     styles: &mut [StyleRow],
-) {
+) -> u64
+    ensures number { λ r. ⌜ r ≡ refusalNumber (readingRaw (now (raw .entry)) (length (now (text .entry))) (length (now (cues .entry))) (length (now (regions .entry))) (length (now (styles .entry)))) ⌝ }
+    ensures text { λ _. ⌜ now (text .exit) ≡ convertedRoom (now (raw .entry)) (now (text .entry)) ⌝ }
+    ensures cues { λ _. ⌜ now (cues .exit) ≡ afterReading (readingRaw (now (raw .entry)) (length (now (text .entry))) (length (now (cues .entry))) (length (now (regions .entry))) (length (now (styles .entry)))) (cueRows (lists (plainText (now (raw .entry))) .regions) (lists (plainText (now (raw .entry))) .cues)) (now (cues .entry)) ⌝ }
+    ensures regions { λ _. ⌜ now (regions .exit) ≡ afterReading (readingRaw (now (raw .entry)) (length (now (text .entry))) (length (now (cues .entry))) (length (now (regions .entry))) (length (now (styles .entry)))) (regionRows (lists (plainText (now (raw .entry))) .regions)) (now (regions .entry)) ⌝ }
+    ensures styles { λ _. ⌜ now (styles .exit) ≡ afterReading (readingRaw (now (raw .entry)) (length (now (text .entry))) (length (now (cues .entry))) (length (now (regions .entry))) (length (now (styles .entry)))) (styleRows (lists (plainText (now (raw .entry))) .styles)) (now (styles .entry)) ⌝ }
+{
     match plain::convert(raw, text) {
         Converted::Text(n) => show_text(&text[..n], cues, regions, styles),
-        Converted::TooLong => refuse(1),
-        Converted::RoomTooShort(_) => refuse(2),
+        Converted::TooLong => 1,
+        Converted::RoomTooShort(_) => 2,
     }
 }
 
-// The lines of an open file, read into `raw`. More input than `raw` holds is refusal 1.
+// Prints the lines of an open file, read into `raw`, or the line of the refusal. More input than `raw` holds is refusal 1.
 pub fn show_file(
     file: i32,
     raw: &mut [u8],
@@ -94,5 +124,5 @@ pub fn show_file(
     if refuse_more(file) {
         return;
     }
-    show(&raw[..n], text, cues, regions, styles);
+    refuse(show(&raw[..n], text, cues, regions, styles));
 }

@@ -33,7 +33,7 @@ fn print_row(room: &[u8], number: usize, row: NodeRow) {
 }
 
 // The first `count` rows, a line each; all where there are fewer.
-pub fn print_all(room: &[u8], nodes: &[NodeRow], count: usize) {
+pub(crate) fn print_all(room: &[u8], nodes: &[NodeRow], count: usize) {
     let end = values::least(count, nodes.len());
     let mut i = 0;
     while i < end {

@@ -1,8 +1,6 @@
 // The lines of the regions.
 use super::output;
 use format::rows::*;
-ghost use Prim.Native.Nat.{_≤_};
-ghost use lib.ListN.{length};
 
 fn print_row(text: &[u8], number: usize, row: RegionRow) {
     output::print(b"region");
@@ -18,12 +16,11 @@ fn print_row(text: &[u8], number: usize, row: RegionRow) {
     output::print(b"\n");
 }
 
-// The first `count` rows, a line each.
-pub fn print_all(text: &[u8], regions: &[RegionRow], count: usize)
-    requires { ⌜ count ≤ length (now regions) ⌝ }
-{
+// The first `count` rows, a line each; all where there are fewer.
+pub(crate) fn print_all(text: &[u8], regions: &[RegionRow], count: usize) {
+    let end = values::least(count, regions.len());
     let mut i = 0;
-    while i < count {
+    while i < end {
         print_row(text, i, regions[i]);
         i += 1;
     }

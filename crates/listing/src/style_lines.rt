@@ -1,15 +1,12 @@
 // The lines of the style texts.
 use super::output;
 use format::rows::*;
-ghost use Prim.Native.Nat.{_≤_};
-ghost use lib.ListN.{length};
 
-// The first `count` rows, a line each.
-pub fn print_all(text: &[u8], styles: &[StyleRow], count: usize)
-    requires { ⌜ count ≤ length (now styles) ⌝ }
-{
+// The first `count` rows, a line each; all where there are fewer.
+pub(crate) fn print_all(text: &[u8], styles: &[StyleRow], count: usize) {
+    let end = values::least(count, styles.len());
     let mut i = 0;
-    while i < count {
+    while i < end {
         let row = styles[i];
         output::print(b"style");
         output::number(i as u64);

@@ -1,19 +1,19 @@
 -- Laws of one answer after another: a refusal to read is the answer, and where lists were read, their rows stand at the tables' starts.
-use Prim.Native.Nat.{ℕ, min}
+use Prim.Native.Nat.{ℕ, _≤_, min}
 use mathlib.Core.Path.{_≡_, refl, sym, ap, _∙_}
-use mathlib.Core.Bool.{not, _||_}
+use mathlib.Core.Bool.{Bool, true, false, cond, not, _||_}
 use mathlib.Core.Logic.{⊎-elim}
 use mathlib.Core.List.{List, [], _∷_}
 use native.Mathlib.Omega.{arith}
 use lib.Dec.{ltb}
 use lib.ListN.{length, take, length-map}
 use lib.Seq.{length-take-le}
-use borrow.Author.Tests.{ltb-false}
+use borrow.Author.Tests.{ltb-false, le-ltb}
 use Rattle.laws.proofs.Answers.{after-test, front}
 use Rattle.laws.proofs.Rows.{rows-say}
 use types.Run.{OneOf}
 use denote.Enum.Declared.{tagOf}
-use Rattle.format.specs.Answers.{Answer, accepted, ifAccepted, andThen, placed}
+use Rattle.format.specs.Answers.{Answer, accepted, refused, ifAccepted, andThen, placed}
 use Rattle.format.specs.Limits.{maxText}
 use Rattle.format.specs.Plain.{firstNotPlain}
 use Rattle.format.specs.Blocks.{hasSignature}
@@ -23,29 +23,59 @@ use Rattle.format.specs.Reading.{readingIs, counts, reading, afterReading}
 use Rattle.format.specs.Contents.{storedContents}
 use Rattle.format.specs.Written.{written}
 use Rattle.format.specs.Writing.{fileOf}
-use Rattle.format.specs.Rewriting.{rewritingIs, numberOnly, refusalNumber, rewrittenFile}
+use Rattle.format.specs.Rewriting.{rewritingIs, rewrittenFile}
 use Rattle.format.proofs.Reading.{the-type}
 use Rattle.lookup.proofs.NameLaws.{take-min}
 use Rattle.format.specs.declared.Reading.{Reading}
 use Rattle.format.specs.declared.Reading.the-variants as Reading
-use Rattle.format.specs.declared.Rewriting.the-variants as Rewriting
+use Rattle.format.specs.declared.Rewriting.{Rewriting}
+use Rattle.rewriting.specs.Refusals.{unreadIs}
 
 -- after a refusal to read nothing is done
 module _ (next : Answer) (file out : List ℕ) where
-  pub record Stops (r : Reading) (n : ℕ) : Type 0 where
-    pub answer : rewritingIs (Rewriting.Refused n) ≡ numberOnly (andThen (readingIs r) next)
+  pub record Stops (r : Reading) (t : Rewriting) : Type 0 where
+    pub answer : rewritingIs t ≡ andThen (readingIs r) next
     pub room : out ≡ ifAccepted (andThen (readingIs r) next) (placed file out) out
 
-  pub stops : (r : Reading) (n : ℕ) → n ≡ refusalNumber (readingIs r) → OneOf (1 ∷ 2 ∷ 3 ∷ 4 ∷ 5 ∷ []) (tagOf the-type r) → Stops r n
-  unfolding readingIs rewritingIs numberOnly refusalNumber andThen ifAccepted
-  stops (Reading.Lists c r t) n e k =
+  pub stops :
+      (r : Reading)
+      → OneOf (1 ∷ 2 ∷ 3 ∷ 4 ∷ 5 ∷ []) (tagOf the-type r)
+      → ((i : ℕ) → r ≡ Reading.TextNotPlainAt i → ⊥)
+      → Stops r (unreadIs r)
+  unfolding readingIs rewritingIs andThen ifAccepted
+  stops (Reading.Lists c r t) k never =
       absurd
       (⊎-elim (λ e. omega arith) (⊎-elim (λ e. omega arith) (⊎-elim (λ e. omega arith) (⊎-elim (λ e. omega arith) (λ e. omega arith)))) k)
-  stops Reading.TextTooLong n e k = rw e (record { answer = refl; room = refl })
-  stops (Reading.TextNotPlainAt i) n e k = rw e (record { answer = refl; room = refl })
-  stops Reading.NoSignature n e k = rw e (record { answer = refl; room = refl })
-  stops Reading.OverLimit n e k = rw e (record { answer = refl; room = refl })
-  stops (Reading.TablesTooShort c r t) n e k = rw e (record { answer = refl; room = refl })
+  stops Reading.TextTooLong k never = record { answer = refl; room = refl }
+  stops (Reading.TextNotPlainAt i) k never = absurd (never i refl)
+  stops Reading.NoSignature k never = record { answer = refl; room = refl }
+  stops Reading.OverLimit k never = record { answer = refl; room = refl }
+  stops (Reading.TablesTooShort c r t) k never = record { answer = refl; room = refl }
+
+-- a refusal by another number is not by this test
+other : (t : Bool) (n k : ℕ) (us vs : List ℕ) (a : Answer) → (n ≡ k → ⊥) → refused n us ≡ cond t (refused k vs) a → refused n us ≡ a
+other true n k us vs a never e = absurd (never cc)
+other false n k us vs a never e = e
+
+-- a plain text is not refused by 3
+pub plain-read :
+    (s : List ℕ) (cues regions styles : ℕ) (r : Reading)
+    → length s ≤ firstNotPlain s
+    → readingIs r ≡ reading s cues regions styles
+    → (i : ℕ)
+    → r ≡ Reading.TextNotPlainAt i
+    → ⊥
+unfolding readingIs reading
+plain-read s cues regions styles r l e i is =
+    let l₀ = lists s in
+    let short = ltb cues (length (l₀ .cues)) || ltb regions (length (l₀ .regions)) || ltb styles (length (l₀ .styles)) in
+    let told : refused 3 (i ∷ []) ≡ cond (ltb maxText (length s)) (refused 1 []) _ = rw (is, le-ltb (firstNotPlain s) (length s) l) at e in
+    let sized = other (ltb maxText (length s)) 3 1 (i ∷ []) [] _ (λ z. omega arith) told in
+    let signed = other (not (hasSignature s)) 3 4 (i ∷ []) [] _ (λ z. omega arith) sized in
+    let within = other (anyOver (items s)) 3 5 (i ∷ []) [] _ (λ z. omega arith) signed in
+    let fits : refused 3 (i ∷ []) ≡ accepted (counts l₀) = other short 3 6 (i ∷ []) (counts l₀) _ (λ z. omega arith) within in
+    let z : _≡_ {A = ℕ} 0 1 = cc in
+    omega arith
 
 -- only the counts of the lists are accepted
 same-values : (vs us : List ℕ) → accepted vs ≡ accepted us → vs ≡ us

@@ -7,50 +7,52 @@ use format::rows::CueRow;
 use format::rows::RegionRow;
 use format::rows::StyleRow;
 ghost use mathlib.Core.Path.{_≡_};
+ghost use Prim.Native.Nat.{_≤_};
 ghost use lib.ListN.{length, take};
-ghost use Rattle.format.specs.Plain.{plainText};
+ghost use Rattle.format.specs.Plain.{plainText, firstNotPlain};
 ghost use Rattle.format.specs.Lists.{lists};
 ghost use Rattle.format.specs.Rows.{cueRows, regionRows, styleRows};
-ghost use Rattle.format.specs.Answers.{ifAccepted, placed};
+ghost use Rattle.format.specs.Answers.{ifAccepted, andThen, placed};
 ghost use Rattle.format.specs.Converting.{convertedRoom};
-ghost use Rattle.format.specs.Reading.{readingIs, reading, afterReading};
+ghost use Rattle.format.specs.Reading.{reading, afterReading};
 ghost use Rattle.format.specs.Writing.{writingIs, writing, writtenRoom};
-ghost use Rattle.format.specs.Rewriting.{rewritingIs, numberOnly, refusalNumber, lengths, readAndWrite, rewrittenFile, rewriting, rewrittenRoom, afterRewriting};
+ghost use Rattle.format.specs.Rewriting.{rewritingIs, lengths, writingOf, readingIn, rewrittenFile, rewriting, rewrittenRoom};
+ghost use Rattle.rewriting.specs.Refusals.{unreadIs};
 
-// The number of a refusal to read; 0 for lists.
-fn reading_number(answer: Reading) -> u64
-    ensures { λ r. ⌜ r ≡ refusalNumber (readingIs answer) ⌝ }
+// A refusal to read, as it is told. A plain text is not refused by 3, and lists are not refused: these two cases are not met.
+fn unread(answer: Reading) -> Rewriting
+    ensures { λ r. ⌜ r ≡ unreadIs answer ⌝ }
 {
     match answer {
         Reading::Lists {
             cues: _,
             regions: _,
             styles: _,
-        } => 0,
-        Reading::TextTooLong => 1,
-        Reading::TextNotPlainAt(_) => 3,
-        Reading::NoSignature => 4,
-        Reading::OverLimit => 5,
+        } => Rewriting::NoSignature,
+        Reading::TextTooLong => Rewriting::RawTooLong,
+        Reading::TextNotPlainAt(_) => Rewriting::NoSignature,
+        Reading::NoSignature => Rewriting::NoSignature,
+        Reading::OverLimit => Rewriting::OverLimit,
         Reading::TablesTooShort {
-            cues: _,
-            regions: _,
-            styles: _,
-        } => 6,
+            cues,
+            regions,
+            styles,
+        } => Rewriting::TablesTooShort {
+            cues,
+            regions,
+            styles,
+        },
     }
 }
 
 fn written(answer: Writing) -> Rewriting
-    ensures { λ r. ⌜ rewritingIs r ≡ numberOnly (writingIs answer) ⌝ }
+    ensures { λ r. ⌜ rewritingIs r ≡ writingIs answer ⌝ }
 {
     match answer {
         Writing::File(n) => Rewriting::File(n),
-        Writing::NotWritable {
-            list: _,
-            index: _,
-            test: _,
-        } => Rewriting::Refused(8),
-        Writing::FileTooLong => Rewriting::Refused(1),
-        Writing::OutTooShort(_) => Rewriting::Refused(10),
+        Writing::NotWritable { list, index, test } => Rewriting::NotWritable { list, index, test },
+        Writing::FileTooLong => Rewriting::FileTooLong,
+        Writing::OutTooShort(n) => Rewriting::OutTooShort(n),
     }
 }
 
@@ -65,7 +67,7 @@ fn write_first(
     c: usize,
     out: &mut [u8],
 ) -> Rewriting
-    ensures answer { λ a. ⌜ rewritingIs a ≡ numberOnly (writing (now (text .entry)) (take s (now (styles .entry))) (take r (now (regions .entry))) (take c (now (cues .entry))) (length (now (out .entry)))) ⌝ }
+    ensures answer { λ a. ⌜ rewritingIs a ≡ writing (now (text .entry)) (take s (now (styles .entry))) (take r (now (regions .entry))) (take c (now (cues .entry))) (length (now (out .entry))) ⌝ }
     ensures out { λ a. ⌜ now (out .exit) ≡ writtenRoom (now (text .entry)) (take s (now (styles .entry))) (take r (now (regions .entry))) (take c (now (cues .entry))) (now (out .entry)) ⌝ }
 {
     let last_style = values::least(s, styles.len());
@@ -88,11 +90,12 @@ fn rewrite_text(
     styles: &mut [StyleRow],
     out: &mut [u8],
 ) -> Rewriting
-    ensures answer { λ r. ⌜ rewritingIs r ≡ numberOnly (readAndWrite (now (text .entry)) (lengths (now (text .entry)) (now (cues .entry)) (now (regions .entry)) (now (styles .entry)) (now (out .entry)))) ⌝ }
+    requires { ⌜ length (now text) ≤ firstNotPlain (now text) ⌝ }
+    ensures answer { λ r. ⌜ rewritingIs r ≡ andThen (reading (now (text .entry)) (length (now (cues .entry))) (length (now (regions .entry))) (length (now (styles .entry)))) (writingOf (now (text .entry)) (length (now (out .entry)))) ⌝ }
     ensures cues { λ _. ⌜ now (cues .exit) ≡ afterReading (reading (now (text .entry)) (length (now (cues .entry))) (length (now (regions .entry))) (length (now (styles .entry)))) (cueRows (lists (now (text .entry)) .regions) (lists (now (text .entry)) .cues)) (now (cues .entry)) ⌝ }
     ensures regions { λ _. ⌜ now (regions .exit) ≡ afterReading (reading (now (text .entry)) (length (now (cues .entry))) (length (now (regions .entry))) (length (now (styles .entry)))) (regionRows (lists (now (text .entry)) .regions)) (now (regions .entry)) ⌝ }
     ensures styles { λ _. ⌜ now (styles .exit) ≡ afterReading (reading (now (text .entry)) (length (now (cues .entry))) (length (now (regions .entry))) (length (now (styles .entry)))) (styleRows (lists (now (text .entry)) .styles)) (now (styles .entry)) ⌝ }
-    ensures out { λ _. ⌜ now (out .exit) ≡ ifAccepted (readAndWrite (now (text .entry)) (lengths (now (text .entry)) (now (cues .entry)) (now (regions .entry)) (now (styles .entry)) (now (out .entry)))) (placed (rewrittenFile (now (text .entry))) (now (out .entry))) (now (out .entry)) ⌝ }
+    ensures out { λ _. ⌜ now (out .exit) ≡ ifAccepted (andThen (reading (now (text .entry)) (length (now (cues .entry))) (length (now (regions .entry))) (length (now (styles .entry)))) (writingOf (now (text .entry)) (length (now (out .entry))))) (placed (rewrittenFile (now (text .entry))) (now (out .entry))) (now (out .entry)) ⌝ }
 {
     let answer = reader::read(text, cues, regions, styles);
     let Reading::Lists {
@@ -101,12 +104,13 @@ fn rewrite_text(
         styles: s,
     } = answer
     else {
-        return Rewriting::Refused(reading_number(answer));
+        return unread(answer);
     };
     write_first(text, styles, s, regions, r, cues, c, out)
 }
 
-// Rewrites a raw file. Its plain text goes to `text`, its lists to the tables, and the written form to `out`.
+// Rewrites a raw file. Its plain text goes to `text`, its lists to the tables, and the written form to `out`. Text room and tables are scratch
+// for this call: where a later step refuses, they hold what the steps before it made.
 pub fn rewrite(
     raw: &[u8],
     text: &mut [u8],
@@ -115,16 +119,16 @@ pub fn rewrite(
     styles: &mut [StyleRow],
     out: &mut [u8],
 ) -> Rewriting
-    ensures answer { λ r. ⌜ rewritingIs r ≡ numberOnly (rewriting (now (raw .entry)) (lengths (now (text .entry)) (now (cues .entry)) (now (regions .entry)) (now (styles .entry)) (now (out .entry)))) ⌝ }
+    ensures answer { λ r. ⌜ rewritingIs r ≡ rewriting (now (raw .entry)) (lengths (now (text .entry)) (now (cues .entry)) (now (regions .entry)) (now (styles .entry)) (now (out .entry))) ⌝ }
     ensures text { λ _. ⌜ now (text .exit) ≡ convertedRoom (now (raw .entry)) (now (text .entry)) ⌝ }
-    ensures cues { λ _. ⌜ now (cues .exit) ≡ afterRewriting (now (raw .entry)) (lengths (now (text .entry)) (now (cues .entry)) (now (regions .entry)) (now (styles .entry)) (now (out .entry))) (cueRows (lists (plainText (now (raw .entry))) .regions) (lists (plainText (now (raw .entry))) .cues)) (now (cues .entry)) ⌝ }
-    ensures regions { λ _. ⌜ now (regions .exit) ≡ afterRewriting (now (raw .entry)) (lengths (now (text .entry)) (now (cues .entry)) (now (regions .entry)) (now (styles .entry)) (now (out .entry))) (regionRows (lists (plainText (now (raw .entry))) .regions)) (now (regions .entry)) ⌝ }
-    ensures styles { λ _. ⌜ now (styles .exit) ≡ afterRewriting (now (raw .entry)) (lengths (now (text .entry)) (now (cues .entry)) (now (regions .entry)) (now (styles .entry)) (now (out .entry))) (styleRows (lists (plainText (now (raw .entry))) .styles)) (now (styles .entry)) ⌝ }
+    ensures cues { λ _. ⌜ now (cues .exit) ≡ afterReading (readingIn (now (raw .entry)) (lengths (now (text .entry)) (now (cues .entry)) (now (regions .entry)) (now (styles .entry)) (now (out .entry)))) (cueRows (lists (plainText (now (raw .entry))) .regions) (lists (plainText (now (raw .entry))) .cues)) (now (cues .entry)) ⌝ }
+    ensures regions { λ _. ⌜ now (regions .exit) ≡ afterReading (readingIn (now (raw .entry)) (lengths (now (text .entry)) (now (cues .entry)) (now (regions .entry)) (now (styles .entry)) (now (out .entry)))) (regionRows (lists (plainText (now (raw .entry))) .regions)) (now (regions .entry)) ⌝ }
+    ensures styles { λ _. ⌜ now (styles .exit) ≡ afterReading (readingIn (now (raw .entry)) (lengths (now (text .entry)) (now (cues .entry)) (now (regions .entry)) (now (styles .entry)) (now (out .entry)))) (styleRows (lists (plainText (now (raw .entry))) .styles)) (now (styles .entry)) ⌝ }
     ensures out { λ _. ⌜ now (out .exit) ≡ rewrittenRoom (now (raw .entry)) (lengths (now (text .entry)) (now (cues .entry)) (now (regions .entry)) (now (styles .entry)) (now (out .entry))) (now (out .entry)) ⌝ }
 {
     match plain::convert(raw, text) {
         Converted::Text(n) => rewrite_text(&text[..n], cues, regions, styles, out),
-        Converted::TooLong => Rewriting::Refused(1),
-        Converted::RoomTooShort(_) => Rewriting::Refused(2),
+        Converted::TooLong => Rewriting::RawTooLong,
+        Converted::RoomTooShort(n) => Rewriting::RoomTooShort(n),
     }
 }

@@ -3,7 +3,10 @@ use mathlib.Core.Path.{refl, sym}
 use lib.Seq.{length-take-le}
 use Rattle.format.specs.Answers.{ifAccepted, andThen}
 use Rattle.format.specs.Converting.{convertedIs}
-use Rattle.format.specs.Rewriting.{rewritingIs, numberOnly, lengths, readAndWrite, rewriting, rewrittenRoom, afterRewriting}
+use Rattle.format.specs.Reading.{readingRaw, afterReading}
+use Rattle.format.specs.Rewriting.{rewritingIs, lengths, readingIn, rewriting, rewrittenRoom}
+use native.Mathlib.Omega.{arith}
+use Rattle.laws.proofs.PlainText.{plainText-plain}
 use Rattle.laws.proofs.Answers.{Converts, converts}
 use borrow.Author.Needs.{needs}
 use Rattle.rewriting.proofs.rewrite.Statement.{statement}
@@ -34,13 +37,13 @@ slice-aggregate-rewrite-text : tie.Need-slice-aggregate-rewrite-text
 slice-aggregate-rewrite-text c = sym (length-take-le _ _ (plain (c .before .before) .fits))
 
 rewrite-text-requires : tie.Need-rewrite-text-requires
-rewrite-text-requires c κs = search needs
+rewrite-text-requires c κs =
+    let known = c .before .before .before .before .before .before in
+    let raw = known .before .before .before .before .before .before .before .before .before .args .raw .now in
+    rw (plain known .text) (omega (arith, plainText-plain raw))
 
 enum-told : tie.Need-enum-told
 enum-told c = search needs
-
-enum-told-2 : tie.Need-enum-told-2
-enum-told-2 c = search needs
 
 same-length : tie.Need-same-length
 same-length c = search needs
@@ -58,7 +61,7 @@ same-length-5 : tie.Need-same-length-5
 same-length-5 c = search needs
 
 returns : tie.Need-returns
-unfolding rewriting rewrittenRoom afterRewriting readAndWrite lengths andThen ifAccepted convertedIs
+unfolding rewriting rewrittenRoom readingIn readingRaw afterReading lengths andThen ifAccepted convertedIs
 returns c =
     let called = c .before .before .before .before .before in
     let known = called .before .before .before .before .before .before .before in
@@ -70,7 +73,7 @@ same-length-6 : tie.Need-same-length-6
 same-length-6 c = search needs
 
 returns-2 : tie.Need-returns-2
-unfolding rewriting rewrittenRoom afterRewriting lengths andThen ifAccepted convertedIs rewritingIs numberOnly
+unfolding rewriting rewrittenRoom readingIn readingRaw afterReading lengths andThen ifAccepted convertedIs rewritingIs
 returns-2 c =
     let told = c .before .before .before .before .convert .ensures in
     rw (← (rw (c .enum-told .given .1) at (told .0))) (refl, (told .1, (refl, (refl, (refl, refl)))))
@@ -79,10 +82,13 @@ same-length-7 : tie.Need-same-length-7
 same-length-7 c = search needs
 
 returns-3 : tie.Need-returns-3
-unfolding rewriting rewrittenRoom afterRewriting lengths andThen ifAccepted convertedIs rewritingIs numberOnly
+unfolding rewriting rewrittenRoom readingIn readingRaw afterReading lengths andThen ifAccepted convertedIs rewritingIs
 returns-3 c =
-    let told = c .before .before .before .before .convert .ensures in
-    rw (← (rw (c .enum-told2 .given .1) at (told .0))) (refl, (told .1, (refl, (refl, (refl, refl)))))
+    let told = c .before .before .before .before .before .convert .ensures in
+    rw (← (rw (c .before .n2 .given .1) at (told .0))) (refl, (told .1, (refl, (refl, (refl, refl)))))
+
+enum-known-n-2 : tie.Need-enum-known-n-2
+enum-known-n-2 c = search needs
 
 pub rewrite-spec : {M : Type 1} → statement M
 rewrite-spec =
@@ -94,7 +100,7 @@ rewrite-spec =
     slice-aggregate-rewrite-text
     rewrite-text-requires
     enum-told
-    enum-told-2
+    enum-known-n-2
     same-length
     same-length-2
     same-length-3

@@ -3,8 +3,8 @@ use lib.ListN.{length}
 use Rattle.format.specs.Answers.{ifAccepted, andThen}
 use Rattle.format.specs.Reading.{readingIs}
 use Rattle.format.specs.Writing.{writtenRoom}
-use Rattle.format.specs.Rewriting.{lengths, writingOf, rewrittenFile, readAndWrite}
-use Rattle.rewriting.proofs.RewriteLaws.{stops, starts, file-is}
+use Rattle.format.specs.Rewriting.{writingOf, rewrittenFile}
+use Rattle.rewriting.proofs.RewriteLaws.{stops, plain-read, starts, file-is}
 use borrow.Author.Needs.{needs}
 use Rattle.rewriting.proofs.rewrite_text.Statement.{statement}
 use Rattle.rewriting.proofs.rewrite_text.Tie as tie
@@ -15,8 +15,8 @@ read-requires c κs = search needs
 enum-known-answer : tie.Need-enum-known-answer
 enum-known-answer c = search needs
 
-reading-number-requires : tie.Need-reading-number-requires
-reading-number-requires c κs = search needs
+unread-requires : tie.Need-unread-requires
+unread-requires c κs = search needs
 
 same-length : tie.Need-same-length
 same-length c = search needs
@@ -28,16 +28,15 @@ same-length-3 : tie.Need-same-length-3
 same-length-3 c = search needs
 
 returns : tie.Need-returns
-unfolding readAndWrite lengths
 returns c =
     let read = c .before .before .before .before .before in
-    let args = read .before .before .before .before .before .before .args in
+    let start = read .before .before .before .before .before .before in
+    let args = start .args in
     let s = args .text .now in
     let told = read .read .ensures in
-    let no =
-    stops (writingOf s (length (args .out .now))) (rewrittenFile s) (args .out .now) (read .read .result)
-    (c .reading-number .result) (c .reading-number .ensures) (c .before .match .keys2) in
-    rw (← (told .0)) (no .answer, (told .1 .0, (told .1 .1 .0, (told .1 .1 .1, no .room))))
+    let never = plain-read s (length (args .cues .now)) (length (args .regions .now)) (length (args .styles .now)) (read .read .result) (start .pre) (told .0) in
+    let no = stops (writingOf s (length (args .out .now))) (rewrittenFile s) (args .out .now) (read .read .result) (c .before .match .keys2) never in
+    rw (← (told .0), c .unread .ensures) (no .answer, (told .1 .0, (told .1 .1 .0, (told .1 .1 .1, no .room))))
 
 write-first-requires : tie.Need-write-first-requires
 write-first-requires c κs = search needs
@@ -55,7 +54,7 @@ same-length-7 : tie.Need-same-length-7
 same-length-7 c = search needs
 
 returns-2 : tie.Need-returns-2
-unfolding readAndWrite lengths readingIs andThen ifAccepted writingOf writtenRoom
+unfolding readingIs andThen ifAccepted writingOf writtenRoom
 returns-2 c =
     let wrote = c .before .before in
     let known = wrote .before .before .before .before .before .before in
@@ -75,7 +74,7 @@ rewrite-text-spec =
     (tie.spec
     read-requires
     enum-known-answer
-    reading-number-requires
+    unread-requires
     same-length
     same-length-2
     same-length-3

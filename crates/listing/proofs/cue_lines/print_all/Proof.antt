@@ -5,10 +5,13 @@ use Rattle.listing.proofs.cue_lines.print_all.Statement.{statement}
 use Rattle.listing.proofs.cue_lines.print_all.Tie as tie
 
 abbrev Inv-loop : tie.InvT-loop
-Inv-loop text cues count i₀ i = i ≤ count
+Inv-loop text cues count end i₀ i = i ≤ end
 
 abbrev μ-loop : tie.MeasureT-loop
-μ-loop text cues count i₀ i = count - i
+μ-loop text cues count end i₀ i = end - i
+
+least-requires : tie.Need-least-requires Inv-loop μ-loop
+least-requires c κs = search needs
 
 loop-holds : tie.Need-loop-holds Inv-loop μ-loop
 loop-holds c = search needs
@@ -29,4 +32,4 @@ returns : tie.Need-returns Inv-loop μ-loop
 returns c = search needs
 
 pub print-all-spec : {M : Type 1} → statement M
-print-all-spec = tie.close (tie.spec Inv-loop μ-loop loop-holds print-cue-requires add-i loop-less loop-again returns)
+print-all-spec = tie.close (tie.spec Inv-loop μ-loop least-requires loop-holds print-cue-requires add-i loop-less loop-again returns)

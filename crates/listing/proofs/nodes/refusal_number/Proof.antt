@@ -1,6 +1,6 @@
 -- `listing::nodes::refusal_number` meets its contract.
 use mathlib.Core.Path.{refl}
-use Rattle.format.specs.Rewriting.{refusalNumber}
+use Rattle.format.specs.Answers.{refusalNumber}
 use Rattle.format.specs.Trees.{treeIs}
 use borrow.Author.Needs.{needs}
 use Rattle.listing.proofs.nodes.refusal_number.Statement.{statement}

@@ -5,10 +5,13 @@ use Rattle.listing.proofs.style_lines.print_all.Statement.{statement}
 use Rattle.listing.proofs.style_lines.print_all.Tie as tie
 
 abbrev Inv-loop : tie.InvT-loop
-Inv-loop text styles count i₀ t6 t7 i = i ≤ count
+Inv-loop text styles count end i₀ t6 t7 i = i ≤ end
 
 abbrev μ-loop : tie.MeasureT-loop
-μ-loop text styles count i₀ t6 t7 i = count - i
+μ-loop text styles count end i₀ t6 t7 i = end - i
+
+least-requires : tie.Need-least-requires Inv-loop μ-loop
+least-requires c κs = search needs
 
 loop-holds : tie.Need-loop-holds Inv-loop μ-loop
 loop-holds c = search needs
@@ -61,6 +64,7 @@ print-all-spec =
     (tie.spec
     Inv-loop
     μ-loop
+    least-requires
     loop-holds
     mul-row
     shared-slice-copy-out-row

@@ -1,10 +1,10 @@
--- `rewriting::reading_number` meets its contract.
+-- `listing::reading_number` meets its contract.
 use mathlib.Core.Path.{refl}
 use Rattle.format.specs.Reading.{readingIs}
-use Rattle.format.specs.Rewriting.{refusalNumber}
+use Rattle.format.specs.Answers.{refusalNumber}
 use borrow.Author.Needs.{needs}
-use Rattle.rewriting.proofs.reading_number.Statement.{statement}
-use Rattle.rewriting.proofs.reading_number.Tie as tie
+use Rattle.listing.proofs.reading_number.Statement.{statement}
+use Rattle.listing.proofs.reading_number.Tie as tie
 
 enum-told : tie.Need-enum-told
 enum-told c = search needs
