@@ -19,7 +19,7 @@ pub enum Piece {
 }
 
 impl Piece {
-    pub fn taken(self) -> usize
+    pub(crate) fn taken(self) -> usize
         ensures { λ r. ⌜ r ≡ takenBy self ⌝ }
     {
         match self {
@@ -31,7 +31,7 @@ impl Piece {
     }
 
     // How many bytes it becomes.
-    pub fn size(self) -> usize
+    pub(crate) fn size(self) -> usize
         ensures { λ r. ⌜ r ≡ sizeOf self ⌝ }
     {
         match self {
@@ -44,7 +44,7 @@ impl Piece {
 }
 
 // Is the byte one of ASCII that always stays: no NUL and no CR.
-pub fn stays(b: u8) -> bool
+pub(crate) fn stays(b: u8) -> bool
     ensures { λ r. ⌜ (r ≡ true → Stays b) ⌝ }
 {
     if 0x0D < b && b < 0x80 {
@@ -66,7 +66,7 @@ fn line_end(s: &[u8], at: usize) -> Piece
     Piece::Line
 }
 
-pub fn piece_at(s: &[u8], at: usize) -> Piece
+pub(crate) fn piece_at(s: &[u8], at: usize) -> Piece
     requires { ⌜ at < length (now s) ⌝ }
     ensures { λ r. ⌜ Stands (now (s .entry)) at r ⌝ }
 {
@@ -97,7 +97,7 @@ fn copy(s: &[u8], at: usize, n: usize, room: &mut [u8], to: usize)
 }
 
 // Writes what the piece at `at` becomes into the room, from `to` on.
-pub fn put(s: &[u8], at: usize, p: Piece, room: &mut [u8], to: usize)
+pub(crate) fn put(s: &[u8], at: usize, p: Piece, room: &mut [u8], to: usize)
     requires { ⌜ (at + takenBy p ≤ length (now s)) × (to + sizeOf p ≤ length (now room)) ⌝ }
     ensures { λ _. ⌜ now (room .exit) ≡ sets (now (room .entry)) to (putBy p (drop at (now (s .entry)))) ⌝ }
 {

@@ -94,7 +94,7 @@ fn trailing(s: &[u8], from: usize, end: usize) -> bool
 }
 
 // The length of the well-formed sequence that starts at `at`; 0 where none does.
-pub fn sequence_at(s: &[u8], at: usize) -> usize
+pub(crate) fn sequence_at(s: &[u8], at: usize) -> usize
     requires { ⌜ at < length (now s) ⌝ }
     ensures { λ r. ⌜ r ≡ sequence (drop at (now (s .entry))) ⌝ }
 {

@@ -28,7 +28,7 @@ impl Counts {
     };
 
     // One item more.
-    pub fn with(self, item: Item) -> Counts
+    pub(crate) fn with(self, item: Item) -> Counts
         requires { ⌜ (self .cues ≤ maxText) × (self .regions ≤ maxText) × (self .styles ≤ maxText) ⌝ }
         ensures { λ r. ⌜ r ≡ withItem item self ⌝ }
     {
@@ -91,7 +91,7 @@ fn counted(tally: Tally) -> Reading
 }
 
 // The counts of a text's lists, or the first refusal that the text gives.
-pub fn measure(s: &[u8]) -> Reading
+pub(crate) fn measure(s: &[u8]) -> Reading
     ensures { λ r. ⌜ MeasuredIs (now (s .entry)) r ⌝ }
 {
     if format::MAX_TEXT < s.len() {

@@ -83,7 +83,7 @@ fn put(
 }
 
 // The rows of the blocks from `from` on.
-pub fn fill(
+pub(crate) fn fill(
     text: &[u8],
     from: usize,
     cues: &mut [CueRow],

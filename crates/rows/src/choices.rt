@@ -12,7 +12,7 @@ ghost use mathlib.Core.Bool.{_&&_};
 ghost use lib.Dec.{eqb, ltb};
 ghost use Rattle.format.specs.Rows.{directionOf, lineOf, lineAlignOf, positionOf, positionAlignOf, alignOf, regionIndexOf, scrollOf};
 
-pub fn direction(n: u64) -> Direction
+pub(crate) fn direction(n: u64) -> Direction
     ensures { λ r. ⌜ r ≡ directionOf n ⌝ }
 {
     match n {
@@ -29,7 +29,7 @@ fn is_below(n: u64, number: u64) -> bool
     n == 2 && 0 < number
 }
 
-pub fn line(n: u64, number: u64) -> Line
+pub(crate) fn line(n: u64, number: u64) -> Line
     ensures { λ r. ⌜ r ≡ lineOf n number ⌝ }
 {
     match n {
@@ -41,7 +41,7 @@ pub fn line(n: u64, number: u64) -> Line
     }
 }
 
-pub fn line_align(n: u64) -> LineAlign
+pub(crate) fn line_align(n: u64) -> LineAlign
     ensures { λ r. ⌜ r ≡ lineAlignOf n ⌝ }
 {
     match n {
@@ -51,7 +51,7 @@ pub fn line_align(n: u64) -> LineAlign
     }
 }
 
-pub fn position(n: u64, number: u64) -> Position
+pub(crate) fn position(n: u64, number: u64) -> Position
     ensures { λ r. ⌜ r ≡ positionOf n number ⌝ }
 {
     match n {
@@ -60,7 +60,7 @@ pub fn position(n: u64, number: u64) -> Position
     }
 }
 
-pub fn position_align(n: u64) -> PositionAlign
+pub(crate) fn position_align(n: u64) -> PositionAlign
     ensures { λ r. ⌜ r ≡ positionAlignOf n ⌝ }
 {
     match n {
@@ -71,7 +71,7 @@ pub fn position_align(n: u64) -> PositionAlign
     }
 }
 
-pub fn align(n: u64) -> Align
+pub(crate) fn align(n: u64) -> Align
     ensures { λ r. ⌜ r ≡ alignOf n ⌝ }
 {
     match n {
@@ -83,7 +83,7 @@ pub fn align(n: u64) -> Align
     }
 }
 
-pub fn region(n: u64) -> RegionIndex
+pub(crate) fn region(n: u64) -> RegionIndex
     ensures { λ r. ⌜ r ≡ regionIndexOf n ⌝ }
 {
     match n {
@@ -92,7 +92,7 @@ pub fn region(n: u64) -> RegionIndex
     }
 }
 
-pub fn scroll(n: u64) -> Scroll
+pub(crate) fn scroll(n: u64) -> Scroll
     ensures { λ r. ⌜ r ≡ scrollOf n ⌝ }
 {
     match n {

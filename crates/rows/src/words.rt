@@ -11,7 +11,7 @@ ghost use mathlib.Core.Path.{_≡_};
 ghost use Prim.Native.Nat.{_<_};
 ghost use Rattle.format.specs.Rows.{directionWord, lineWord, lineNumberWord, snapWord, lineAlignWord, positionWord, positionNumberWord, positionAlignWord, alignWord, regionWord, scrollWord};
 
-pub fn direction(d: Direction) -> u64
+pub(crate) fn direction(d: Direction) -> u64
     ensures { λ r. ⌜ r ≡ directionWord d ⌝ }
 {
     match d {
@@ -21,7 +21,7 @@ pub fn direction(d: Direction) -> u64
     }
 }
 
-pub fn line(l: Line) -> u64
+pub(crate) fn line(l: Line) -> u64
     ensures { λ r. ⌜ r ≡ lineWord l ⌝ }
 {
     match l {
@@ -38,7 +38,7 @@ pub fn line(l: Line) -> u64
     }
 }
 
-pub fn line_number(l: Line) -> u64
+pub(crate) fn line_number(l: Line) -> u64
     ensures { λ r. ⌜ r ≡ lineNumberWord l ⌝ }
 {
     match l {
@@ -50,7 +50,7 @@ pub fn line_number(l: Line) -> u64
     }
 }
 
-pub fn snap(snaps: bool) -> u64
+pub(crate) fn snap(snaps: bool) -> u64
     ensures { λ r. ⌜ r ≡ snapWord snaps ⌝ }
 {
     match snaps {
@@ -59,7 +59,7 @@ pub fn snap(snaps: bool) -> u64
     }
 }
 
-pub fn line_align(a: LineAlign) -> u64
+pub(crate) fn line_align(a: LineAlign) -> u64
     ensures { λ r. ⌜ r ≡ lineAlignWord a ⌝ }
 {
     match a {
@@ -69,7 +69,7 @@ pub fn line_align(a: LineAlign) -> u64
     }
 }
 
-pub fn position(p: Position) -> u64
+pub(crate) fn position(p: Position) -> u64
     ensures { λ r. ⌜ r ≡ positionWord p ⌝ }
 {
     match p {
@@ -78,7 +78,7 @@ pub fn position(p: Position) -> u64
     }
 }
 
-pub fn position_number(p: Position) -> u64
+pub(crate) fn position_number(p: Position) -> u64
     ensures { λ r. ⌜ r ≡ positionNumberWord p ⌝ }
 {
     match p {
@@ -87,7 +87,7 @@ pub fn position_number(p: Position) -> u64
     }
 }
 
-pub fn position_align(a: PositionAlign) -> u64
+pub(crate) fn position_align(a: PositionAlign) -> u64
     ensures { λ r. ⌜ r ≡ positionAlignWord a ⌝ }
 {
     match a {
@@ -98,7 +98,7 @@ pub fn position_align(a: PositionAlign) -> u64
     }
 }
 
-pub fn align(a: Align) -> u64
+pub(crate) fn align(a: Align) -> u64
     ensures { λ r. ⌜ r ≡ alignWord a ⌝ }
 {
     match a {
@@ -111,7 +111,7 @@ pub fn align(a: Align) -> u64
 }
 
 // The greatest index has no word of its own, and no list of regions has that index.
-pub fn region(i: RegionIndex) -> u64
+pub(crate) fn region(i: RegionIndex) -> u64
     ensures { λ r. ⌜ r ≡ regionWord i ⌝ }
 {
     match i {
@@ -125,7 +125,7 @@ pub fn region(i: RegionIndex) -> u64
     }
 }
 
-pub fn scroll(s: Scroll) -> u64
+pub(crate) fn scroll(s: Scroll) -> u64
     ensures { λ r. ⌜ r ≡ scrollWord s ⌝ }
 {
     match s {

@@ -100,7 +100,7 @@ fn with_settings(s: &[u8], at: usize, over: bool, start: u64, end: u64) -> Timin
 }
 
 // The timing line that stands from `from` up to the end of `s`.
-pub fn read_timing_line(s: &[u8], from: usize) -> TimingLine
+pub(crate) fn read_timing_line(s: &[u8], from: usize) -> TimingLine
     requires { ⌜ from ≤ length (now s) ⌝ }
     ensures { λ r. ⌜ r ≡ timingLineIs (timingLine (tokenFrom (now (s .entry)) from)) ⌝ }
 {

@@ -28,7 +28,7 @@ fn digit_at(ds: &[u8], i: usize) -> u64
 }
 
 // Digits as a base-ten integer, held at CAP.
-pub fn number_of(ds: &[u8]) -> u64
+pub(crate) fn number_of(ds: &[u8]) -> u64
     ensures { λ r. ⌜ r ≡ min (number (now (ds .entry))) cap ⌝ }
 {
     let mut v: u64 = 0;
@@ -62,7 +62,7 @@ pub enum Decimal {
     },
 }
 
-pub fn read_decimal(s: &[u8]) -> Decimal
+fn read_decimal(s: &[u8]) -> Decimal
     ensures { λ r. ⌜ r ≡ decimalIs (decimal (now (s .entry))) ⌝ }
 {
     let end = super::bytes::past(s, 0, ByteKind::Digits);

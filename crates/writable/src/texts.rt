@@ -9,7 +9,7 @@ ghost use Rattle.format.specs.Blocks.{holdsArrow};
 ghost use Rattle.format.specs.Writable.{noneEmpty, unbroken};
 
 // Does the text hold `-->`.
-pub fn holds_arrow(s: &[u8]) -> bool
+fn holds_arrow(s: &[u8]) -> bool
     ensures { λ r. ⌜ r ≡ holdsArrow (now (s .entry)) ⌝ }
 {
     let mut i = 0;
@@ -55,7 +55,7 @@ fn none_empty(s: &[u8]) -> bool
 }
 
 // Has the text no empty line and no `-->`.
-pub fn is_unbroken(s: &[u8]) -> bool
+pub(crate) fn is_unbroken(s: &[u8]) -> bool
     ensures { λ r. ⌜ r ≡ unbroken (now (s .entry)) ⌝ }
 {
     if !none_empty(s) {
@@ -79,7 +79,7 @@ fn no_line_end(s: &[u8]) -> bool
 }
 
 // Has the text no LF and no `-->`.
-pub fn is_identifier(s: &[u8]) -> bool
+pub(crate) fn is_identifier(s: &[u8]) -> bool
     ensures { λ r. ⌜ r ≡ not (has lf (now (s .entry))) && not (holdsArrow (now (s .entry))) ⌝ }
 {
     if !no_line_end(s) {
@@ -103,7 +103,7 @@ fn no_white(s: &[u8]) -> bool
 }
 
 // Has the text no ASCII whitespace and no `-->`.
-pub fn is_region_identifier(s: &[u8]) -> bool
+pub(crate) fn is_region_identifier(s: &[u8]) -> bool
     ensures { λ r. ⌜ r ≡ all (λ b. not (white b)) (now (s .entry)) && not (holdsArrow (now (s .entry))) ⌝ }
 {
     if !no_white(s) {
