@@ -158,7 +158,7 @@ pub struct CueTaken {
 }
 
 // The settings that stand from `from` on.
-pub fn read_settings(s: &[u8], from: usize) -> CueTaken
+pub(crate) fn read_settings(s: &[u8], from: usize) -> CueTaken
     requires { ⌜ from ≤ length (now s) ⌝ }
     ensures { λ r. ⌜ r ≡ takenIs (cueSettings (record { place = from; bytes = drop from (now (s .entry)) })) ⌝ }
 {
@@ -169,7 +169,7 @@ pub fn read_settings(s: &[u8], from: usize) -> CueTaken
         over: false,
     };
     loop {
-        let found = values::tokens::next_token(s, i);
+        let found = values::inner::tokens::next_token(s, i);
         let Token::At { from: at, to } = found else {
             return taken;
         };
@@ -199,7 +199,7 @@ fn step(s: &[u8], from: usize, taken: CueTaken) -> CueTaken
     requires { ⌜ from ≤ length (now s) ⌝ }
     ensures { λ r. ⌜ r ≡ stepIs (record { place = from; bytes = drop from (now (s .entry)) }) taken ⌝ }
 {
-    match values::tokens::name_end(s, from) {
+    match values::inner::tokens::name_end(s, from) {
         NameEnd::None => taken,
         NameEnd::At(colon) => named_step(&s[from..colon], s, colon + 1, taken),
     }

@@ -188,7 +188,7 @@ fn step(s: &[u8], from: usize, taken: RegionTaken) -> RegionTaken
     requires { ⌜ from ≤ length (now s) ⌝ }
     ensures { λ r. ⌜ r ≡ stepIs (tokenFrom (now (s .entry)) from) taken ⌝ }
 {
-    match values::tokens::name_end(s, from) {
+    match values::inner::tokens::name_end(s, from) {
         NameEnd::None => taken,
         NameEnd::At(colon) => take_setting(s, from, colon, taken),
     }
@@ -208,7 +208,7 @@ fn read_region(s: &[u8], from: usize) -> RegionTaken
         over: false,
     };
     loop {
-        let found = values::tokens::next_token(s, i);
+        let found = values::inner::tokens::next_token(s, i);
         let Token::At { from: at, to } = found else {
             return taken;
         };

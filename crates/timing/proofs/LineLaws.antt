@@ -1,5 +1,5 @@
 -- A timing line at a place of a slice: the arrow, the end time and the settings by the code's tests.
-use Prim.Native.Nat.{ℕ, suc, _+_, _-_, _≤_, _<_}
+use Prim.Native.Nat.{ℕ, suc, _+_, _-_, _≤_, _<_, min}
 use mathlib.Core.Path.{_≡_, refl, sym, ap, _∙_}
 use mathlib.Core.Bool.{Bool, false}
 use mathlib.Core.List.{List, [], _∷_}
@@ -7,7 +7,7 @@ use mathlib.Core.Option.{none}
 use native.Mathlib.Omega.{arith}
 use lib.Dec.{eqb}
 use lib.ListN.{length, getD, drop, length-drop}
-use lib.Seq.{drop-cons}
+use lib.Seq.{drop-cons, take-all}
 use borrow.Author.Tests.{eq-eqb, ne-eqb}
 use Rattle.format.specs.Bytes.{white, hyphen, greater}
 use Rattle.format.specs.Times.{Result, failed, got, onGot, expect, Time, timestamp, milliseconds, overHours}
@@ -15,7 +15,7 @@ use Rattle.format.specs.TimingLines.{skipWhite, arrow, arrowAndEnd, timings, wi
 use Rattle.laws.proofs.Tests.{by-test, or-true}
 use Rattle.laws.proofs.Runs.{RunAt}
 use Rattle.values.specs.Times.{stampIs}
-use Rattle.values.specs.Tokens.{tokenFrom}
+use Rattle.values.specs.Tokens.{tokenFrom, partOf}
 use Rattle.values.proofs.StepLaws.{Steady, steady-then, steady-expect, steady-past, steady-timestamp, left-at, StampRead}
 use Rattle.timing.specs.declared.timing_line.ArrowEnd.the-variants as ArrowEnd
 use Rattle.timing.specs.TimingLines.{arrowIs, lineFrom, timingLineIs}
@@ -144,3 +144,11 @@ module _ (s : List ℕ) (from w : ℕ) (h : from ≤ length s) (r : RunAt white 
       pub line-is : lineFrom s o ms (stampIs (length s) (arrowAndEnd (drop next s))) ≡ timingLineIs (timingLine (tokenFrom s from))
       unfolding timingLine
       line-is = rw timings-are (line-of (arrowAndEnd (drop next s)) refl)
+
+-- the part of a text from a place up to its end
+pub part-rest : (s : List ℕ) (at : ℕ) → at ≤ length s → partOf s at (length s) ≡ tokenFrom s at
+part-rest s at l =
+    let a : min (length s) (length s) ≡ length s = omega arith in
+    let b : min at (length s) ≡ at = omega arith in
+    let n : length (drop at s) ≤ length s - at = omega (arith, length-drop at s) in
+    rw (a, b, take-all (length s - at) (drop at s) n)

@@ -82,7 +82,7 @@ fn with_settings(s: &[u8], at: usize, over: bool, start: u64, end: u64) -> Timin
     requires { ⌜ at ≤ length (now s) ⌝ }
     ensures { λ r. ⌜ r ≡ withSettingsIs (now (s .entry)) over start end at ⌝ }
 {
-    let taken = cue_settings::steps::read_settings(s, at);
+    let taken = cue_settings::all_settings(s, at, s.len());
     if over {
         return TimingLine::Over;
     }

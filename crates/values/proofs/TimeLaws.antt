@@ -14,7 +14,7 @@ use Rattle.format.specs.Limits.{maxHours}
 use Rattle.format.specs.Texts.{all, run, startsWith, isEmpty}
 use Rattle.format.specs.Numbers.{number, numberFrom}
 use Rattle.format.specs.Times.{Result, failed, got, onGot, expect, Time, field, threeValues, hoursFirst, inRange, lastSteps, timestamp, milliseconds, overHours}
-use Rattle.laws.proofs.Runs.{RunAt, run-at, run-all}
+use Rattle.laws.proofs.Runs.{RunAt, run-at, run-all, run-end}
 use Rattle.laws.proofs.Tests.{by-test, and-left, and-right}
 use Rattle.values.specs.declared.times.Field.the-variants as Field
 use Rattle.values.specs.declared.times.Stamp.the-variants as Stamp
@@ -239,12 +239,24 @@ last-held n t x = go (field fullStop 3 x) refl
         (λ i. rw (e, in-range-held t, i) (stamp-held n f r t i))
         (λ o. rw (e, in-range-held t, o))
 
+-- a timestamp without a first digit
+pub stamp-no-digit : (s : List ℕ) (at : ℕ) → length (run digit (drop at s)) ≡ 0 → timestamp (drop at s) ≡ failed
+unfolding timestamp onGot isEmpty
+stamp-no-digit s at z = go (run digit (drop at s)) refl z
+  where
+    go : (ds : List ℕ) → run digit (drop at s) ≡ ds → length ds ≡ 0 → timestamp (drop at s) ≡ failed
+    go [] e l = rw e
+    go (b ∷ ds) e l = absurd (omega arith)
+
+-- the first digits, where there are some
+pub first-at : (s : List ℕ) (at end : ℕ) → end ≡ at + length (run digit (drop at s)) → (end ≡ at → ⊥) → RunAt digit s at end
+first-at s at end e n =
+    by-test (ltb at (length s))
+    (λ y. let l = ltb-true at (length s) y in run-at digit s at end (omega arith) e)
+    (λ z. absurd (n (omega (arith, ap length (run-end digit s at (ltb-false at (length s) z))))))
+
 -- a timestamp from its first digits on
 module _ (s : List ℕ) (at end : ℕ) (r : RunAt digit s at end) where
-  pub stamp-no-digit : end ≡ at → timestamp (drop at s) ≡ failed
-  unfolding timestamp onGot isEmpty
-  stamp-no-digit e = let z : end - at ≡ 0 = omega arith in rw (r .bytes, z)
-
   abbrev pub firstDigits : List ℕ
   firstDigits = take (end - at) (drop at s)
 

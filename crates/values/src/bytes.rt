@@ -1,6 +1,6 @@
 // Bytes, runs of bytes, and texts compared.
 ghost use mathlib.Core.Path.{_≡_};
-ghost use Prim.Native.Nat.{_+_, _≤_};
+ghost use Prim.Native.Nat.{_+_};
 ghost use lib.ListN.{length, drop};
 ghost use Rattle.format.specs.Bytes.{digit, white};
 ghost use Rattle.format.specs.Texts.{same, run};
@@ -53,9 +53,8 @@ fn goes_on(kind: ByteKind, b: u8) -> bool
     }
 }
 
-// Where the run that stands at `at` ends.
+// Where the run that stands at `at` ends; after the text that is `at` itself.
 pub fn past(s: &[u8], at: usize, kind: ByteKind) -> usize
-    requires { ⌜ at ≤ length (now s) ⌝ }
     ensures { λ r. ⌜ r ≡ at + length (run (passes kind) (drop at (now (s .entry)))) ⌝ }
 {
     let mut i = at;

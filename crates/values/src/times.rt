@@ -94,8 +94,8 @@ fn has_hours(s: &[u8], at: usize, digits: usize, first: u64) -> bool
     is_colon(s, at)
 }
 
+// The timestamp at `at`.
 pub fn read_timestamp(s: &[u8], at: usize) -> Stamp
-    requires { ⌜ at ≤ length (now s) ⌝ }
     ensures { λ r. ⌜ r ≡ stampIs (length (now (s .entry))) (timestamp (drop at (now (s .entry)))) ⌝ }
 {
     let end = super::bytes::past(s, at, ByteKind::Digits);

@@ -8,7 +8,7 @@ use borrow.Author.Needs.{needs}
 use Rattle.cue_settings.proofs.steps.step.Statement.{statement}
 use Rattle.cue_settings.proofs.steps.step.Tie as tie
 use Rattle.cue_settings.proofs.steps.named_step.Reads as named-step-reads
-use Rattle.values.proofs.tokens.name_end.Reads as name-end-reads
+use Rattle.values.proofs.inner.tokens.name_end.Reads as name-end-reads
 
 -- the name and the value
 parted :

@@ -41,7 +41,7 @@ arrowed c =
     (sym (c .next .given .1) ∙ c .before .before .arrow-end .ensures)
 
 past-requires-2 : tie.Need-past-requires-2
-past-requires-2 c κs = arrowed (c .before) .0
+past-requires-2 c κs = search needs
 
 beyond :
     (c : tie.After-past2)
@@ -51,7 +51,7 @@ beyond c =
     (arrowed (c .before .before) .0) (c .past2 .ensures)
 
 read-timestamp-requires : tie.Need-read-timestamp-requires
-read-timestamp-requires c κs = beyond c .inside
+read-timestamp-requires c κs = search needs
 
 returns : tie.Need-returns
 returns c =

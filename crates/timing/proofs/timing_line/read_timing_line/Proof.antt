@@ -20,7 +20,7 @@ whites : (c : tie.After-past) → let args = c .before .before .args in RunAt wh
 whites c = let args = c .before .before .args in run-at white (args .s .now) (args .from) (c .past .result) (omega arith) (c .past .ensures)
 
 read-timestamp-requires : tie.Need-read-timestamp-requires
-read-timestamp-requires c κs = whites c .inside
+read-timestamp-requires c κs = search needs
 
 enum-told : tie.Need-enum-told
 enum-told c = search needs

@@ -1,25 +1,33 @@
 -- `timing::timing_line::with_settings` meets its contract.
-use mathlib.Core.Path.{sym, ap, _∙_}
+use mathlib.Core.Path.{_≡_, sym, ap, _∙_}
+use Rattle.format.specs.CueSettings.{cueSettings}
+use Rattle.values.specs.Tokens.{tokenFrom}
+use Rattle.cue_settings.specs.Steps.{takenIs}
+use Rattle.timing.proofs.LineLaws.{part-rest}
 use borrow.Author.Needs.{needs}
 use Rattle.timing.proofs.timing_line.with_settings.Statement.{statement}
 use Rattle.timing.proofs.timing_line.with_settings.Tie as tie
 
-read-settings-requires : tie.Need-read-settings-requires
-read-settings-requires c κs = search needs
+all-settings-requires : tie.Need-all-settings-requires
+all-settings-requires c κs = search needs
+
+-- the settings from the place on
+read : (c : tie.After-all-settings) → let args = c .before .before .args in c .all-settings .result ≡ takenIs (cueSettings (tokenFrom (args .s .now) (args .at)))
+read c =
+    let start = c .before .before in
+    c .all-settings .ensures ∙ ap (λ p. takenIs (cueSettings p)) (part-rest (start .args .s .now) (start .args .at) (start .pre))
 
 returns : tie.Need-returns
 returns c = search needs
 
 returns-2 : tie.Need-returns-2
-returns-2 c =
-    let read = c .before .before .read-settings .ensures in
-    rw (c .before .if1 .left, sym (ap (λ t. t .over) read) ∙ c .if2 .taken)
+returns-2 c = rw (c .before .if1 .left, sym (ap (λ t. t .over) (read (c .before .before))) ∙ c .if2 .taken)
 
 returns-3 : tie.Need-returns-3
 returns-3 c =
     let test = c .before .before in
-    let read = test .before .before .read-settings .ensures in
-    rw (test .before .if1 .left, sym (ap (λ t. t .over) read) ∙ test .if2 .left, ap (λ t. t .settings) read, ap (λ t. t .region) read)
+    let taken = read (test .before .before) in
+    rw (test .before .if1 .left, sym (ap (λ t. t .over) taken) ∙ test .if2 .left, ap (λ t. t .settings) taken, ap (λ t. t .region) taken)
 
 pub with-settings-spec : {M : Type 1} → statement M
-with-settings-spec = tie.close (tie.spec read-settings-requires returns returns-2 returns-3)
+with-settings-spec = tie.close (tie.spec all-settings-requires returns returns-2 returns-3)

@@ -12,8 +12,7 @@ use Rattle.values.proofs.bytes.past.Statement.{statement}
 use Rattle.values.proofs.bytes.past.Tie as tie
 
 abbrev Inv-loop : tie.InvT-loop
-Inv-loop s at kind i₀ i =
-    (i ≤ length s) × (i + length (run (passes kind) (drop i s)) ≡ at + length (run (passes kind) (drop at s)))
+Inv-loop s at kind i₀ i = i + length (run (passes kind) (drop i s)) ≡ at + length (run (passes kind) (drop at s))
 
 abbrev μ-loop : tie.MeasureT-loop
 μ-loop s at kind i₀ i = length s - i

@@ -36,7 +36,7 @@ loop-holds c =
     (omega arith, omega arith, index-start (args .table .now) (args .name .now))
 
 past-requires : tie.Need-past-requires Inv-loop μ-loop
-past-requires c κs = omega arith
+past-requires c κs = search needs
 
 sub-same-bytes : tie.Need-sub-same-bytes Inv-loop μ-loop
 sub-same-bytes c = omega (arith, line-at c .from)

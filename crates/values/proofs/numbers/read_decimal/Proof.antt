@@ -73,7 +73,7 @@ returns-4 c =
     sym (ap decimalIs (decimal-no-fraction s (found .past .result) (ran found) (omega arith) (beyond (c .before .before .before)) (c .if4 .taken)))
 
 past-requires-2 : tie.Need-past-requires-2
-past-requires-2 c κs = omega (arith, ran (c .before .before .before .before .before .before .before) .inside)
+past-requires-2 c κs = search needs
 
 -- bytes stand after the full stop
 fraction : (c : tie.Else4) → let found = c .before .before .before .before .before .before .before in found .past .result + 1 < length (found .before .before .args .s .now)

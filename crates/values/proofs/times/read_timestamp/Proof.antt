@@ -9,10 +9,10 @@ use Rattle.format.specs.Bytes.{digit, colon}
 use Rattle.format.specs.Texts.{startsWith}
 use Rattle.format.specs.Numbers.{number, numberFrom}
 use Rattle.format.specs.Times.{Time, hoursFirst}
-use Rattle.laws.proofs.Runs.{RunAt, run-at}
+use Rattle.laws.proofs.Runs.{RunAt}
 use Rattle.values.specs.Times.{stampIs}
 use Rattle.values.proofs.NumberLaws.{ltb-held}
-use Rattle.values.proofs.TimeLaws.{FieldRead, field-read, field-unread, last-held, firstDigits, first-length, stamp-no-digit, stamp-no-second, stamp-no-third, stamp-third, stamp-two}
+use Rattle.values.proofs.TimeLaws.{FieldRead, first-at, field-read, field-unread, last-held, firstDigits, first-length, stamp-no-digit, stamp-no-second, stamp-no-third, stamp-third, stamp-two}
 use borrow.Author.Needs.{needs}
 use Rattle.values.proofs.times.read_timestamp.Statement.{statement}
 use Rattle.values.proofs.times.read_timestamp.Tie as tie
@@ -21,14 +21,17 @@ past-requires : tie.Need-past-requires
 past-requires c κs = search needs
 
 -- the first digits
-ran : (c : tie.After-past) → let args = c .before .before .args in RunAt digit (args .s .now) (args .at) (c .past .result)
-ran c = let args = c .before .before .args in run-at digit (args .s .now) (args .at) (c .past .result) (omega arith) (c .past .ensures)
+ran : (c : tie.Else1) → let past = c .before in let args = past .before .before .args in RunAt digit (args .s .now) (args .at) (past .past .result)
+ran c =
+    let past = c .before in
+    let args = past .before .before .args in
+    first-at (args .s .now) (args .at) (past .past .result) (past .past .ensures) (c .if1 .left)
 
 returns : tie.Need-returns
 returns c =
     let found = c .before in
     let args = found .before .before .args in
-    sym (ap (stampIs (length (args .s .now))) (stamp-no-digit (args .s .now) (args .at) (found .past .result) (ran found) (c .if1 .taken)))
+    sym (ap (stampIs (length (args .s .now))) (stamp-no-digit (args .s .now) (args .at) (omega (arith, found .past .ensures, c .if1 .taken))))
 
 sub-number-of : tie.Need-sub-number-of
 sub-number-of c = search needs
@@ -37,13 +40,13 @@ part-number-of-start : tie.Need-part-number-of-start
 part-number-of-start c = search needs
 
 part-number-of-end : tie.Need-part-number-of-end
-part-number-of-end c = ran (c .before) .inside
+part-number-of-end c = ran c .inside
 
 number-of-requires : tie.Need-number-of-requires
 number-of-requires c κs = search needs
 
 read-field-requires : tie.Need-read-field-requires
-read-field-requires c κs = ran (c .before .before .before) .inside
+read-field-requires c κs = ran (c .before .before) .inside
 
 enum-known-read : tie.Need-enum-known-read
 enum-known-read c = search needs
@@ -53,16 +56,18 @@ enum-told c = search needs
 
 -- there is a first digit
 some : (c : tie.Else1) → c .before .before .before .args .at < c .before .past .result
-some c = omega (arith, ran (c .before) .from, c .if1 .left)
+some c = omega (arith, ran c .from, c .if1 .left)
 
 -- the second value
 second :
     (c : tie.After-read)
-    → let past = c .before .before .before .before .before .before in
+    → let first = c .before .before .before .before .before in
+    let past = first .before in
     FieldRead (past .before .before .args .s .now) (past .past .result) colon 2 (c .read .given .0 .0) (c .read .given .0 .1 .0)
 second c =
-    let past = c .before .before .before .before .before .before in
-    field-read (past .before .before .args .s .now) (past .past .result) colon 2 (ran past .inside) (c .read .given .0 .0) (c .read .given .0 .1 .0)
+    let first = c .before .before .before .before .before in
+    let past = first .before in
+    field-read (past .before .before .args .s .now) (past .past .result) colon 2 (ran first .inside) (c .read .given .0 .0) (c .read .given .0 .1 .0)
     (sym (c .read .given .1) ∙ c .before .before .read-field .ensures)
 
 returns-2 : tie.Need-returns-2
@@ -71,8 +76,8 @@ returns-2 c =
     let past = first .before in
     let args = past .before .before .args in
     let s = args .s .now in
-    let unread = field-unread s (past .past .result) colon 2 (ran past .inside) (sym (c .enum-told .given .1) ∙ c .before .before .read-field .ensures) in
-    sym (ap (stampIs (length s)) (stamp-no-second s (args .at) (past .past .result) (ran past) (some first) unread))
+    let unread = field-unread s (past .past .result) colon 2 (ran first .inside) (sym (c .enum-told .given .1) ∙ c .before .before .read-field .ensures) in
+    sym (ap (stampIs (length s)) (stamp-no-second s (args .at) (past .past .result) (ran first) (some first) unread))
 
 sub-has-hours : tie.Need-sub-has-hours
 sub-has-hours c = search needs
@@ -93,30 +98,34 @@ enum-told-2 c = search needs
 hours :
     (c : tie.After-has-hours)
     → let read = c .before .before in
-    let past = read .before .before .before .before .before .before in
+    let first = read .before .before .before .before .before in
+    let past = first .before in
     let args = past .before .before .args in
     c .has-hours .result
-    ≡ hoursFirst (firstDigits (args .s .now) (args .at) (past .past .result) (ran past))
+    ≡ hoursFirst (firstDigits (args .s .now) (args .at) (past .past .result) (ran first))
     || startsWith (colon ∷ []) (drop (read .read .given .0 .1 .0) (args .s .now))
 unfolding hoursFirst
 hours c =
     let read = c .before .before in
     let number = read .before .before .before in
-    let past = number .before .before .before in
+    let first = number .before .before in
+    let past = first .before in
     let args = past .before .before .args in
-    let ds = firstDigits (args .s .now) (args .at) (past .past .result) (ran past) in
+    let ds = firstDigits (args .s .now) (args .at) (past .past .result) (ran first) in
     c .has-hours .ensures
-    ∙ rw (number .number-of .ensures, ltb-held 59 (numberFrom 0 ds) (omega arith), first-length (args .s .now) (args .at) (past .past .result) (ran past))
+    ∙ rw (number .number-of .ensures, ltb-held 59 (numberFrom 0 ds) (omega arith), first-length (args .s .now) (args .at) (past .past .result) (ran first))
 
 -- the third value
 third :
     (c : tie.After-third)
     → let read = c .before .before .before .before .before .before in
-    let past = read .before .before .before .before .before .before in
+    let first = read .before .before .before .before .before in
+    let past = first .before in
     FieldRead (past .before .before .args .s .now) (read .read .given .0 .1 .0) colon 2 (c .third .given .0 .0) (c .third .given .0 .1 .0)
 third c =
     let read = c .before .before .before .before .before .before in
-    let past = read .before .before .before .before .before .before in
+    let first = read .before .before .before .before .before in
+    let past = first .before in
     field-read (past .before .before .args .s .now) (read .read .given .0 .1 .0) colon 2 (second read .inside) (c .third .given .0 .0) (c .third .given .0 .1 .0)
     (sym (c .third .given .1) ∙ c .before .before .read-field2 .ensures)
 
@@ -132,7 +141,7 @@ returns-3 c =
     let unread = field-unread s next colon 2 (second read .inside) (sym (c .enum-told2 .given .1) ∙ c .before .before .read-field2 .ensures) in
     sym
     (ap (stampIs (length s))
-    (stamp-no-third s (args .at) (past .past .result) (ran past) (some first) (read .read .given .0 .0) next (second read)
+    (stamp-no-third s (args .at) (past .past .result) (ran first) (some first) (read .read .given .0 .0) next (second read)
     (sym (hours found) ∙ c .before .before .before .if2 .taken) unread))
 
 finish-requires : tie.Need-finish-requires
@@ -147,13 +156,13 @@ returns-4 c =
     let past = first .before in
     let args = past .before .before .args in
     let s = args .s .now in
-    let ds = firstDigits s (args .at) (past .past .result) (ran past) in
+    let ds = firstDigits s (args .at) (past .past .result) (ran first) in
     let two = second read in
     let three = third last in
     let end = last .third .given .0 .1 .0 in
     let values : Time = record { hours = number ds; minutes = two .value; seconds = three .value; thousandths = 0 } in
     let stamp =
-    stamp-third s (args .at) (past .past .result) (ran past) (some first) (read .read .given .0 .0) (read .read .given .0 .1 .0) two
+    stamp-third s (args .at) (past .past .result) (ran first) (some first) (read .read .given .0 .0) (read .read .given .0 .1 .0) two
     (sym (hours found) ∙ last .before .before .before .if2 .taken) (last .third .given .0 .0) end three in
     c .finish .ensures
     ∙ rw (read .before .before .before .number-of .ensures, two .held, three .held)
@@ -170,12 +179,12 @@ returns-5 c =
     let past = first .before in
     let args = past .before .before .args in
     let s = args .s .now in
-    let ds = firstDigits s (args .at) (past .past .result) (ran past) in
+    let ds = firstDigits s (args .at) (past .past .result) (ran first) in
     let two = second read in
     let next = read .read .given .0 .1 .0 in
     let values : Time = record { hours = 0; minutes = number ds; seconds = two .value; thousandths = 0 } in
     let stamp =
-    stamp-two s (args .at) (past .past .result) (ran past) (some first) (read .read .given .0 .0) next two
+    stamp-two s (args .at) (past .past .result) (ran first) (some first) (read .read .given .0 .0) next two
     (sym (hours found) ∙ c .before .if2 .left) in
     c .finish2 .ensures
     ∙ rw (read .before .before .before .number-of .ensures, two .held)

@@ -1,4 +1,4 @@
--- `values::tokens::next_token` meets its contract.
+-- `values::inner::tokens::next_token` meets its contract.
 use Prim.Native.Nat.{_<_}
 use mathlib.Core.Path.{ap, _∙_}
 use mathlib.Core.Bool.{not}
@@ -8,8 +8,8 @@ use Rattle.format.specs.Bytes.{white}
 use Rattle.laws.proofs.Runs.{RunAt, run-at, run-after, run-moves, drop-take}
 use Rattle.laws.proofs.Tokens.{inside, tokens-end, tokens-next}
 use borrow.Author.Needs.{needs}
-use Rattle.values.proofs.tokens.next_token.Statement.{statement}
-use Rattle.values.proofs.tokens.next_token.Tie as tie
+use Rattle.values.proofs.inner.tokens.next_token.Statement.{statement}
+use Rattle.values.proofs.inner.tokens.next_token.Tie as tie
 
 past-requires : tie.Need-past-requires
 past-requires c κs = search needs
@@ -25,7 +25,7 @@ returns c =
     tokens-end (args .s .now) (args .i) (found .past .result) (whites found) (omega arith)
 
 past-requires-2 : tie.Need-past-requires-2
-past-requires-2 c κs = whites (c .before) .inside
+past-requires-2 c κs = search needs
 
 returns-2 : tie.Need-returns-2
 returns-2 c =

@@ -1,4 +1,4 @@
--- `values::tokens::name_end` meets its contract.
+-- `values::inner::tokens::name_end` meets its contract.
 use Prim.Native.Nat.{_+_, _-_, _<_}
 use mathlib.Core.Path.{_≡_, ap, _∙_}
 use native.Mathlib.Omega.{arith}
@@ -7,8 +7,8 @@ use Rattle.format.specs.Bytes.{colon}
 use Rattle.format.specs.Texts.{beforeFirst}
 use Rattle.values.proofs.CutLaws.{first-is, before-length, rest-is, no-name, no-value, named-at}
 use borrow.Author.Needs.{needs}
-use Rattle.values.proofs.tokens.name_end.Statement.{statement}
-use Rattle.values.proofs.tokens.name_end.Tie as tie
+use Rattle.values.proofs.inner.tokens.name_end.Statement.{statement}
+use Rattle.values.proofs.inner.tokens.name_end.Tie as tie
 
 sub-token : tie.Need-sub-token
 sub-token c = search needs
