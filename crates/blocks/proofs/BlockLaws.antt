@@ -110,14 +110,14 @@ abbrev slice : List ℕ → ℕ → ℕ → List ℕ
 slice s from to = take (to - from) (drop from s)
 
 -- the line that begins at a place, and what stands after it
-abbrev endAt : List ℕ → ℕ → ℕ
+abbrev pub endAt : List ℕ → ℕ → ℕ
 endAt s p = p + length (lineAt s p)
 
 module _ (s : List ℕ) (p : ℕ) (l : p ≤ length s) where
-  abbrev lineEnd : ℕ
+  abbrev pub lineEnd : ℕ
   lineEnd = endAt s p
 
-  line-inside : lineEnd ≤ length s
+  pub line-inside : lineEnd ≤ length s
   line-inside = omega (arith, run-length inLine (drop p s), length-drop p s)
 
   line-part : lineAt s p ≡ slice s p lineEnd

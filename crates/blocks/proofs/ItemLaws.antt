@@ -82,7 +82,7 @@ run-to-end p s n l =
     (λ z. let k = ltb-false (length (run p (drop n s))) (length (drop n s)) z in
     eq-eqb (n + length (run p (drop n s))) (length s) (omega (arith, length-drop n s)) ∙ sym (all-run p (drop n s) (omega arith)))
 
-no-bytes : (x : List ℕ) → isEmpty x ≡ true → x ≡ []
+pub no-bytes : (x : List ℕ) → isEmpty x ≡ true → x ≡ []
 unfolding isEmpty
 no-bytes [] e = refl
 no-bytes (b ∷ x) e = absurd (true≢false (sym e))

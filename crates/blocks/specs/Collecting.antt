@@ -1,17 +1,20 @@
 -- Collecting a block by places of the text. `proofs/BlockLaws.antt` proves that this is what `format` says.
 use Prim.Native.Nat.{ℕ, _+_, _-_}
-use mathlib.Core.Bool.{Bool, true, false, cond, _&&_}
+use mathlib.Core.Path.{_≡_}
+use mathlib.Core.Bool.{Bool, true, false, cond, not, _&&_}
 use mathlib.Core.List.{List, [], _∷_}
 use lib.Dec.{eqb, ltb}
 use lib.ListN.{length, take, drop}
 use Rattle.format.specs.Bytes.{lf}
-use Rattle.format.specs.Texts.{isEmpty}
+use Rattle.format.specs.Texts.{isEmpty, run}
 use Rattle.format.specs.Lines.{split}
 use Rattle.format.specs.Blocks.{Line, linesAt, holdsArrow}
 use Rattle.blocks.specs.declared.collecting.Why.{Why}
 use Rattle.blocks.specs.declared.collecting.Why.the-variants as Why
 use Rattle.blocks.specs.declared.collecting.Head.{Head}
 use Rattle.blocks.specs.declared.collecting.Stop.{Stop}
+use Rattle.blocks.specs.declared.Next.{Next}
+use Rattle.blocks.specs.declared.Next.the-variants as Next
 
 -- how many LF a text has
 unfoldable pub lineEnds : List ℕ → ℕ
@@ -41,3 +44,42 @@ collectFrom h e (l ∷ ls) =
     cond (isEmpty (l .bytes)) (record { why = Why.EmptyLine; at = l .place; to = e; head = h })
     (cond (eqb (h .left) 0 && holdsArrow (l .bytes)) (record { why = Why.Arrow; at = l .place; to = e; head = h })
     (collectFrom (headAfter h (lineEnd l) (holdsArrow (l .bytes))) (lineEnd l) ls))
+
+-- no line yet, and no line that can be a timing line
+abbrev pub opening : Head
+opening = record { left = 2; first = 0; end = 0; timed = false }
+
+abbrev pub noTiming : Head
+noTiming = record { left = 0; first = 0; end = 0; timed = false }
+
+-- the bytes of the line that begins at a place
+abbrev pub lineBytes : List ℕ → ℕ → List ℕ
+lineBytes s p = run (λ b. not (eqb b lf)) (drop p s)
+
+-- where the lines begin that stand after the first line of a text and a header
+unfoldable pub headerEnd : List ℕ → ℕ
+headerEnd s =
+    cond (eqb (0 + length (lineBytes s 0)) (length s)) (0 + length (lineBytes s 0))
+    (collectFrom noTiming (0 + length (lineBytes s 0) + 1) (linesFrom s (0 + length (lineBytes s 0) + 1)) .at)
+
+-- the first place from one on that holds no LF
+abbrev pub pastEmpty : List ℕ → ℕ → ℕ
+pastEmpty s at = at + length (run (λ b. eqb b lf) (drop at s))
+
+-- the next block that begins at a place or after it
+unfoldable pub nextIs : List ℕ → ℕ → Next
+nextIs s at =
+    cond (ltb (pastEmpty s at) (length s))
+    (Next.Block (pastEmpty s at) (collectFrom opening (pastEmpty s at) (linesFrom s (pastEmpty s at))))
+    Next.None
+
+abbrev pub isEnd : Why → Bool
+isEnd Why.EmptyLine = false
+isEnd Why.End = true
+isEnd Why.Arrow = false
+
+-- what stands where collecting stopped: an empty line or the text's end, the text's end, or a line with an arrow
+abbrev pub WhyIs : List ℕ → Why → ℕ → Type 0
+WhyIs s Why.EmptyLine at = lineBytes s at ≡ []
+WhyIs s Why.End at = at ≡ length s
+WhyIs s Why.Arrow at = holdsArrow (lineBytes s at) ≡ true

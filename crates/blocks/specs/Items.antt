@@ -20,7 +20,7 @@ use Rattle.values.specs.Tokens.{spanTo}
 use Rattle.timing.specs.declared.timing_line.TimingLine.{TimingLine}
 use Rattle.timing.specs.declared.timing_line.TimingLine.the-variants as TimingLine
 use Rattle.regions.specs.declared.RegionTaken.{RegionTaken}
-use Rattle.blocks.specs.Collecting.{lineEnds, linesFrom}
+use Rattle.blocks.specs.Collecting.{lineEnds, linesFrom, WhyIs}
 use Rattle.blocks.specs.declared.collecting.Stop.{Stop}
 use Rattle.blocks.specs.declared.Next.{Next}
 use Rattle.blocks.specs.declared.Next.the-variants as Next
@@ -81,6 +81,7 @@ pub record NextAt (s : List ℕ) (at from : ℕ) (st : Stop) : Type 0 where
   pub skipped : at ≤ from
   pub same : blocksFrom between (linesFrom s at) ≡ blocksFrom between (linesFrom s from)
   pub block : BlockAt s from st
+  pub stopped : WhyIs s (st .why) (st .at)
 
 abbrev pub NextIs : List ℕ → ℕ → Next → Type 0
 NextIs s at Next.None = blocksFrom between (linesFrom s at) ≡ []

@@ -6,13 +6,24 @@ ghost use Prim.Native.Nat.{_≤_, _<_};
 ghost use lib.ListN.{length, getD, drop};
 ghost use Rattle.format.specs.Bytes.{ascii, lf};
 ghost use Rattle.format.specs.Texts.{startsWith};
-ghost use Rattle.blocks.specs.Collecting.{headAfter, linesFrom, collectFrom};
+ghost use Rattle.blocks.specs.Collecting.{isEnd, headAfter, linesFrom, collectFrom};
 
 // Why collecting stopped.
 pub enum Why {
     EmptyLine,
     End,
     Arrow,
+}
+
+// Did the text's end stop it, so that no line is left.
+pub fn is_last(why: Why) -> bool
+    ensures { λ r. ⌜ r ≡ isEnd why ⌝ }
+{
+    match why {
+        Why::EmptyLine => false,
+        Why::End => true,
+        Why::Arrow => false,
+    }
 }
 
 // What is known of a block's first lines. Its timing line is its first line, or the second where the first has no arrow.
@@ -54,7 +65,7 @@ impl Head {
     };
 
     // One line more, which ends here, with an arrow or without.
-    pub fn after(self, end: usize, arrow: bool) -> Head
+    fn after(self, end: usize, arrow: bool) -> Head
         ensures { λ r. ⌜ r ≡ headAfter self end arrow ⌝ }
     {
         let left = self.left;
@@ -101,7 +112,7 @@ fn arrow_at(s: &[u8], i: usize) -> bool
 }
 
 // The lines from `from` on that a block takes whose first lines are known so far.
-pub fn collect(s: &[u8], from: usize, known: Head) -> Stop
+pub(crate) fn collect(s: &[u8], from: usize, known: Head) -> Stop
     requires { ⌜ from ≤ length (now s) ⌝ }
     ensures { λ r. ⌜ r ≡ collectFrom known from (linesFrom (now (s .entry)) from) ⌝ }
 {

@@ -1,19 +1,9 @@
 // What a block gives: a cue, a style text, a region, or nothing.
-use super::collecting::Stop;
 use format::regions::Region;
 use format::settings::Settings;
 use format::settings::Span;
-use regions::RegionTaken;
-use timing::timing_line::TimingLine;
-use values::bytes::ByteKind;
 ghost use mathlib.Core.Path.{_≡_};
-ghost use Prim.Native.Nat.{_+_, _≤_, _<_};
-ghost use lib.ListN.{length};
-ghost use Rattle.format.specs.Lists.{isWord};
-ghost use Rattle.format.specs.TimingLines.{timingLine};
-ghost use Rattle.values.specs.Tokens.{partOf};
-ghost use Rattle.timing.specs.TimingLines.{timingLineIs};
-ghost use Rattle.blocks.specs.Items.{part, afterSpan, timedIs, regionItem, definitionIs, meaningAt, itemIs, isOver};
+ghost use Rattle.blocks.specs.Items.{isOver};
 
 pub struct CueRead {
     pub id: Span,
@@ -46,101 +36,4 @@ pub fn is_over(item: Item) -> bool
         Item::Style(_) => false,
         Item::Region(_) => false,
     }
-}
-
-// The lines after one that ends at `end`, up to the block's end.
-fn after_line(end: usize, to: usize) -> Span
-    requires { ⌜ end ≤ to ⌝ }
-    ensures { λ r. ⌜ r ≡ afterSpan end to ⌝ }
-{
-    if end == to {
-        return Span::NONE;
-    }
-    values::tokens::span(end + 1, to)
-}
-
-// The cue whose timing line stands from one place up to another.
-fn timed_item(s: &[u8], from: usize, to: usize, id: Span, text: Span) -> Item
-    ensures { λ r. ⌜ r ≡ timedIs id text (timingLineIs (timingLine (partOf (now (s .entry)) from to))) ⌝ }
-{
-    match timing::line_of(s, from, to) {
-        TimingLine::Bad => Item::Nothing,
-        TimingLine::Over => Item::Over,
-        TimingLine::Good(read) => {
-            let settings = read.settings;
-            let region = read.region;
-            Item::Cue(CueRead {
-                id,
-                start: read.start,
-                end: read.end,
-                settings,
-                region,
-                text,
-            })
-        }
-    }
-}
-
-// Is the line this word, with only whitespace after it.
-fn is_word(line: &[u8], word: &[u8]) -> bool
-    ensures { λ r. ⌜ r ≡ isWord (now (word .entry)) (now (line .entry)) ⌝ }
-{
-    let n = word.len();
-    if line.len() < n {
-        return false;
-    }
-    if !values::bytes::same_bytes(&line[..n], word) {
-        return false;
-    }
-    values::bytes::past(line, n, ByteKind::White) == line.len()
-}
-
-fn region_item(taken: RegionTaken) -> Item
-    ensures { λ r. ⌜ r ≡ regionItem taken ⌝ }
-{
-    if taken.over {
-        return Item::Over;
-    }
-    let region = taken.region;
-    Item::Region(region)
-}
-
-// A block without a timing line: its first line ends at `first`, and others follow it.
-fn definition(s: &[u8], from: usize, first: usize, to: usize, seen: bool) -> Item
-    requires { ⌜ (from ≤ first) × (first < to) × (to ≤ length (now s)) ⌝ }
-    ensures { λ r. ⌜ r ≡ definitionIs seen (part (now (s .entry)) from first .bytes) (part (now (s .entry)) (first + 1) to) ⌝ }
-{
-    if seen {
-        return Item::Nothing;
-    }
-    let line = &s[from..first];
-    if is_word(line, b"STYLE") {
-        return Item::Style(values::tokens::span(first + 1, to));
-    }
-    if is_word(line, b"REGION") {
-        return region_item(regions::all_settings(s, first + 1, to));
-    }
-    Item::Nothing
-}
-
-// What the block gives that begins at `from`, `seen` telling whether a cue has succeeded before it.
-pub fn item_at(s: &[u8], from: usize, stop: Stop, seen: bool) -> Item
-    requires { ⌜ (from < stop .head .first) × (stop .head .first ≤ stop .head .end) × (stop .head .end ≤ stop .to) × (stop .to ≤ length (now s)) ⌝ }
-    ensures { λ r. ⌜ r ≡ itemIs (meaningAt seen (now (s .entry)) from stop) ⌝ }
-{
-    let head = stop.head;
-    let first = head.first;
-    let end = head.end;
-    let to = stop.to;
-    if !head.timed {
-        if first == to {
-            return Item::Nothing;
-        }
-        return definition(s, from, first, to, seen);
-    }
-    let text = after_line(end, to);
-    if first == end {
-        return timed_item(s, from, end, Span::NONE, text);
-    }
-    timed_item(s, first + 1, end, values::tokens::span(from, first), text)
 }

@@ -3,13 +3,11 @@ use collecting::Head;
 use collecting::Stop;
 use values::bytes::ByteKind;
 ghost use mathlib.Core.Path.{_≡_};
-ghost use Prim.Native.Nat.{_≤_};
-ghost use lib.ListN.{length};
-ghost use Rattle.format.specs.Blocks.{hasSignature, between, blocksFrom, blocks};
-ghost use Rattle.blocks.specs.Collecting.{linesFrom};
-ghost use Rattle.blocks.specs.Items.{NextIs};
+ghost use Rattle.format.specs.Blocks.{hasSignature};
+ghost use Rattle.blocks.specs.Collecting.{headerEnd, nextIs};
 
 pub mod collecting;
+pub mod inner;
 pub mod items;
 
 pub fn has_signature(s: &[u8]) -> bool
@@ -36,7 +34,7 @@ pub fn has_signature(s: &[u8]) -> bool
 
 // Where the lines begin that stand after the first line of a text and a header.
 pub fn past_header(s: &[u8]) -> usize
-    ensures { λ r. ⌜ (r ≤ length (now (s .entry))) × (blocks (now (s .entry)) ≡ blocksFrom between (linesFrom (now (s .entry)) r)) ⌝ }
+    ensures { λ r. ⌜ r ≡ headerEnd (now (s .entry)) ⌝ }
 {
     let end = values::bytes::past(s, 0, ByteKind::Until(b'\n'));
     if end == s.len() {
@@ -54,17 +52,14 @@ pub enum Next {
 
 // The next block that begins at `at` or after it; none where that is after the text.
 pub fn next_block(s: &[u8], at: usize) -> Next
-    ensures { λ r. ⌜ NextIs (now (s .entry)) at r ⌝ }
+    ensures { λ r. ⌜ r ≡ nextIs (now (s .entry)) at ⌝ }
 {
-    let mut i = at;
-    while i < s.len() {
-        if s[i] != b'\n' {
-            return Next::Block {
-                from: i,
-                stop: collecting::collect(s, i, Head::OPENING),
-            };
-        }
-        i += 1;
+    let from = values::bytes::past(s, at, ByteKind::Only(b'\n'));
+    if s.len() <= from {
+        return Next::None;
     }
-    Next::None
+    Next::Block {
+        from,
+        stop: collecting::collect(s, from, Head::OPENING),
+    }
 }

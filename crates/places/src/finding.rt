@@ -1,5 +1,6 @@
 // One walk over the blocks of a plain text: how many cues it has, where the lines of one cue stand, and whether a region has a name.
 use blocks::Next;
+use blocks::collecting::is_last;
 use blocks::items::Item;
 use format::settings::Span;
 use values::bytes::same_bytes;
@@ -94,11 +95,15 @@ pub fn survey(s: &[u8], number: usize, name: &[u8]) -> Surveyed
         let Next::Block { from, stop } = next else {
             return Surveyed::Readable(found);
         };
-        let item = blocks::items::item_at(s, from, stop, 0 < found.cues);
+        let item = blocks::inner::item_at(s, from, stop, 0 < found.cues);
         if blocks::items::is_over(item) {
             return Surveyed::OverLimit;
         }
         found = with_item(found, s, item, Span { from, to: stop.to }, number, name);
+        let why = stop.why;
+        if is_last(why) {
+            return Surveyed::Readable(found);
+        }
         at = stop.at;
     }
 }

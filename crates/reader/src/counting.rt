@@ -1,5 +1,6 @@
 // The first pass over a text: every refusal that the text itself gives, and how many entries each list has.
 use blocks::Next;
+use blocks::collecting::is_last;
 use blocks::items::Item;
 use format::Plainness;
 use format::Reading;
@@ -68,11 +69,15 @@ fn count_items(s: &[u8], from: usize) -> Tally
         let Next::Block { from: begin, stop } = next else {
             return Tally::Counts(n);
         };
-        let item = blocks::items::item_at(s, begin, stop, 0 < n.cues);
+        let item = blocks::inner::item_at(s, begin, stop, 0 < n.cues);
         if blocks::items::is_over(item) {
             return Tally::Over;
         }
         n = n.with(item);
+        let why = stop.why;
+        if is_last(why) {
+            return Tally::Counts(n);
+        }
         at = stop.at;
     }
 }

@@ -1,6 +1,7 @@
 // The second pass over a text that is known to be readable: each list's rows are stored at the start of its table.
 use super::counting::Counts;
 use blocks::Next;
+use blocks::collecting::is_last;
 use blocks::items::CueRead;
 use blocks::items::Item;
 use format::rows::CueEntry;
@@ -103,8 +104,12 @@ pub(crate) fn fill(
         let Next::Block { from: begin, stop } = next else {
             return;
         };
-        let item = blocks::items::item_at(text, begin, stop, 0 < n.cues);
+        let item = blocks::inner::item_at(text, begin, stop, 0 < n.cues);
         put(text, item, n, cues, regions, styles);
+        let why = stop.why;
+        if is_last(why) {
+            return;
+        }
         n = n.with(item);
         at = stop.at;
     }

@@ -1,11 +1,14 @@
 -- `blocks::past_header` meets its contract.
-use Prim.Native.Nat.{_<_, _+_}
-use mathlib.Core.Path.{_∙_}
+use Prim.Native.Nat.{_+_, _<_}
+use mathlib.Core.Path.{_≡_, sym, _∙_}
+use mathlib.Core.Bool.{false}
 use native.Mathlib.Omega.{arith}
+use lib.Dec.{eqb}
 use lib.ListN.{length}
+use borrow.Author.Tests.{eq-eqb, ne-eqb}
 use Rattle.laws.proofs.Runs.{run-length}
+use Rattle.blocks.specs.Collecting.{lineBytes, headerEnd}
 use Rattle.blocks.proofs.LineLaws.{inLine}
-use Rattle.blocks.proofs.BlockLaws.{header-at, blocks-after, no-blocks}
 use borrow.Author.Needs.{needs}
 use Rattle.blocks.proofs.past_header.Statement.{statement}
 use Rattle.blocks.proofs.past_header.Tie as tie
@@ -14,9 +17,11 @@ past-requires : tie.Need-past-requires
 past-requires c κs = search needs
 
 returns : tie.Need-returns
+unfolding headerEnd
 returns c =
     let s = c .before .before .before .args .s .now in
-    (omega arith, no-blocks s (c .before .past .result) (c .before .past .ensures) (c .if1 .taken))
+    let e : 0 + length (lineBytes s 0) ≡ length s = sym (c .before .past .ensures) ∙ c .if1 .taken in
+    c .before .past .ensures ∙ rw (eq-eqb (0 + length (lineBytes s 0)) (length s) e)
 
 -- a line follows the first
 inside : (c : tie.Else1) → c .before .past .result < length (c .before .before .before .args .s .now)
@@ -29,12 +34,12 @@ collect-requires : tie.Need-collect-requires
 collect-requires c κs = omega (arith, inside c)
 
 returns-2 : tie.Need-returns-2
+unfolding headerEnd
 returns-2 c =
     let found = c .before .before in
     let s = found .before .before .args .s .now in
-    let e = found .past .result in
-    let head = header-at s (e + 1) (omega (arith, inside (c .before))) in
-    rw (c .collect .ensures) (head .1, blocks-after s e (found .past .ensures) ∙ head .0)
+    let n : eqb (0 + length (lineBytes s 0)) (length s) ≡ false = rw (found .past .ensures) at (ne-eqb (found .past .result) (length s) (c .before .if1 .left)) in
+    rw (n, ← (found .past .ensures), c .collect .ensures)
 
 pub past-header-spec : {M : Type 1} → statement M
 past-header-spec = tie.close (tie.spec past-requires returns add-collect collect-requires returns-2)

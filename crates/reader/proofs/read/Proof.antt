@@ -5,6 +5,7 @@ use borrow.Author.Tests.{ltb-false}
 use Rattle.format.specs.Limits.{maxText}
 use Rattle.format.specs.Lists.{lists}
 use Rattle.format.specs.Rows.{cueRows, regionRows, styleRows}
+use Rattle.blocks.proofs.WalkLaws.{after-header}
 use Rattle.reader.specs.Counting.{Readable}
 use Rattle.reader.proofs.ReadLaws.{refuses, short-answer, full-answer, long-enough, accepted-rows, short-rows}
 use borrow.Author.Needs.{needs}
@@ -62,7 +63,7 @@ fill-requires c κs =
     let n = found .measured .given .0 in
     let m = readable found in
     let long = sym (out .before .too-short .ensures) ∙ out .if1 .left in (
-      (past .past-header .ensures .0, ltb-false maxText (length s) (m .size), past .past-header .ensures .1, m .within),
+      (rw (past .past-header .ensures) (after-header s .0), ltb-false maxText (length s) (m .size), rw (past .past-header .ensures) (after-header s .1), m .within),
       long-enough s (n .0) (n .1 .0) (n .1 .1 .0) m (length (a .cues .now)) (length (a .regions .now)) (length (a .styles .now)) long,
     )
 

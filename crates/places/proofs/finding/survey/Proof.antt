@@ -10,8 +10,9 @@ use borrow.Author.Tests.{not-true, not-false}
 use Rattle.format.specs.Blocks.{hasSignature}
 use Rattle.format.specs.Lists.{Item, itemOver}
 use Rattle.blocks.specs.declared.collecting.Stop.{Stop}
+use Rattle.blocks.specs.Collecting.{headerEnd}
 use Rattle.blocks.specs.Items.{meaningAt, NextAt, isOver}
-use Rattle.blocks.proofs.WalkLaws.{fresh, moves, over-is}
+use Rattle.blocks.proofs.WalkLaws.{fresh, after-header, next-none, next-found, last, moves, over-is}
 use Rattle.places.proofs.FindLaws.{Walking, walk-start, walk-end, walk-over, walk-next}
 use borrow.Author.Needs.{needs}
 use Rattle.places.proofs.finding.survey.Statement.{statement}
@@ -43,8 +44,8 @@ past-header-requires c κs = search needs
 loop-holds : tie.Need-loop-holds Inv-loop μ-loop
 loop-holds c =
     let args = c .before .before .before .before .before .args in
-    let rest = c .past-header .ensures in
-    walk-start (args .s .now) (args .number) (args .name .now) (c .past-header .result) (rest .0) (rest .1)
+    let rest = after-header (args .s .now) in
+    rw (c .past-header .ensures) (walk-start (args .s .now) (args .number) (args .name .now) (headerEnd (args .s .now)) (rest .0) (rest .1))
 
 next-block-requires : tie.Need-next-block-requires Inv-loop μ-loop
 next-block-requires c κs = search needs
@@ -61,7 +62,7 @@ returns-2 c =
     let own = at .loop in
     let out = at .before .before in
     let args = out .before .before .before .before .args in
-    let none : fresh (args .s .now) (own .at) ≡ [] = rw (c .enum-told .given .1) at (c .before .before .next-block .ensures) in
+    let none : fresh (args .s .now) (own .at) ≡ [] = next-none (args .s .now) (own .at) (c .before .before .next-block .result) (c .before .before .next-block .ensures) (c .enum-told .given .1) in
     walk-end (args .s .now) (args .number) (args .name .now) (own .at) (own .found) (own .inv) (signed out) none
 
 -- the block that was found, and its item
@@ -88,7 +89,7 @@ module _ (c : tie.After-next Inv-loop μ-loop) where
   stop = c .next .given .0 .1 .0
 
   found : NextAt s (at .loop .at) from stop
-  found = rw (c .next .given .1) at (c .before .before .next-block .ensures)
+  found = next-found s (at .loop .at) (c .before .before .next-block .result) (c .before .before .next-block .ensures) from stop (c .next .given .1)
 
   abbrev item : Item
   item = meaningAt (ltb 0 (at .loop .found .cues)) s from stop
@@ -120,18 +121,35 @@ with-item-requires c κs =
     let own = at l .loop in
     omega (arith, own .inv .few, moves (s l) (own .at) (from l) (stop l) (found l), found l .block .inside)
 
-loop-less : tie.Need-loop-less Inv-loop μ-loop
-loop-less c =
-    let l = c .before .before .before .before .before .before in
-    omega (arith, moves (s l) (at l .loop .at) (from l) (stop l) (found l), found l .block .inside)
-
-loop-again : tie.Need-loop-again Inv-loop μ-loop
-loop-again c =
+-- what is found with the item
+more :
+    (c : tie.After-with-item Inv-loop μ-loop)
+    → let l = c .before .before .before .before .before .before in
+    Walking (s l) (number l) (name l) (stop l .at) (c .with-item .result)
+more c =
     let read = c .before .before in
     let l = read .before .before .before .before in
     let own = at l .loop in
     rw (c .with-item .ensures, read .before .item-at .ensures)
     (walk-next (s l) (number l) (name l) (own .at) (own .found) (own .inv) (from l) (stop l) (found l) (over read ∙ c .before .if2 .left))
+
+is-last-requires : tie.Need-is-last-requires Inv-loop μ-loop
+is-last-requires c κs = search needs
+
+returns-4 : tie.Need-returns-4 Inv-loop μ-loop
+returns-4 c =
+    let w = c .before .before in
+    let l = w .before .before .before .before .before .before in
+    let none = last (s l) (at l .loop .at) (from l) (stop l) (found l) (sym (c .before .is-last .ensures) ∙ c .if3 .taken) in
+    walk-end (s l) (number l) (name l) (stop l .at) (w .with-item .result) (more w) (signed (at l .before .before)) none
+
+loop-less : tie.Need-loop-less Inv-loop μ-loop
+loop-less c =
+    let l = c .before .before .before .before .before .before .before .before in
+    omega (arith, moves (s l) (at l .loop .at) (from l) (stop l) (found l), found l .block .inside)
+
+loop-again : tie.Need-loop-again Inv-loop μ-loop
+loop-again c = more (c .before .before)
 
 pub survey-spec : {M : Type 1} → statement M
 survey-spec =
@@ -151,5 +169,7 @@ survey-spec =
     is-over-requires
     returns-3
     with-item-requires
+    is-last-requires
+    returns-4
     loop-less
     loop-again)

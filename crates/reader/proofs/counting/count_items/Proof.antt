@@ -12,7 +12,7 @@ use Rattle.blocks.specs.declared.collecting.Stop.{Stop}
 use Rattle.reader.specs.declared.counting.Tally.{Tally}
 use Rattle.reader.specs.declared.counting.Tally.the-variants as Tally
 use Rattle.reader.specs.Counting.{withItem, tallyWith, tallyIs}
-use Rattle.blocks.proofs.WalkLaws.{fresh, items-next, moves, over-is}
+use Rattle.blocks.proofs.WalkLaws.{fresh, next-none, next-found, last, items-next, moves, over-is}
 use Rattle.reader.proofs.CountLaws.{tally-end, tally-over, tally-next, seen-next, with-most}
 use borrow.Author.Needs.{needs}
 use Rattle.reader.proofs.counting.count_items.Statement.{statement}
@@ -46,7 +46,7 @@ unfolding itemsFrom
 returns c =
     let at = c .before .before .before in
     let s = at .before .before .args .s .now in
-    let none : fresh s (at .loop .at) ≡ [] = rw (c .enum-told .given .1) at (c .before .before .next-block .ensures) in
+    let none : fresh s (at .loop .at) ≡ [] = next-none s (at .loop .at) (c .before .before .next-block .result) (c .before .before .next-block .ensures) (c .enum-told .given .1) in
     sym (tally-end (at .loop .n))
     ∙ ap (λ bs. tallyWith (at .loop .n) (itemsFrom (ltb 0 (at .loop .n .cues)) bs)) (sym none)
     ∙ at .loop .inv .4
@@ -66,7 +66,7 @@ module _ (c : tie.After-next Inv-loop μ-loop) where
   stop = c .next .given .0 .1 .0
 
   found : NextAt s (at .loop .at) from stop
-  found = rw (c .next .given .1) at (c .before .before .next-block .ensures)
+  found = next-found s (at .loop .at) (c .before .before .next-block .result) (c .before .before .next-block .ensures) from stop (c .next .given .1)
 
   abbrev item : Item
   item = meaningAt (ltb 0 (at .loop .n .cues)) s from stop
@@ -102,27 +102,57 @@ returns-2 c =
 with-requires : tie.Need-with-requires Inv-loop μ-loop
 with-requires c κs = (omega arith, omega arith, omega arith)
 
+-- what is counted with the item, and what the blocks after it give
+counted :
+    (c : tie.After-with Inv-loop μ-loop)
+    → let l = c .before .before .before .before .before .before in
+    c .with .result ≡ withItem (itemIs (item l)) (at l .loop .n)
+counted c =
+    let l = c .before .before .before .before .before .before in
+    c .with .ensures ∙ ap (λ i. withItem i (at l .loop .n)) (c .before .before .before .item-at .ensures)
+
+rest :
+    (c : tie.After-with Inv-loop μ-loop)
+    → let l = c .before .before .before .before .before .before in
+    tallyWith (c .with .result) (itemsFrom (ltb 0 (c .with .result .cues)) (fresh (s l) (stop l .at)))
+    ≡ tallyIs (itemsFrom false (fresh (s l) (at l .before .before .args .from)))
+rest c =
+    let l = c .before .before .before .before .before .before in
+    let n = at l .loop .n in
+    let none : itemOver (item l) ≡ false = over (c .before .before) ∙ c .before .if1 .left in
+    let is = itemsFrom (ltb 0 (n .cues) || isCue (item l)) (fresh (s l) (stop l .at)) in
+    rw (counted c, seen-next n (item l) none) (step l (tallyWith (withItem (itemIs (item l)) n) is) (tally-next n (item l) is none))
+
+is-last-requires : tie.Need-is-last-requires Inv-loop μ-loop
+is-last-requires c κs = search needs
+
+returns-3 : tie.Need-returns-3 Inv-loop μ-loop
+unfolding itemsFrom
+returns-3 c =
+    let w = c .before .before in
+    let l = w .before .before .before .before .before .before in
+    let n = w .with .result in
+    let none = last (s l) (at l .loop .at) (from l) (stop l) (found l) (sym (c .before .is-last .ensures) ∙ c .if2 .taken) in
+    sym (tally-end n) ∙ ap (λ bs. tallyWith n (itemsFrom (ltb 0 (n .cues)) bs)) (sym none) ∙ rest w
+
 loop-less : tie.Need-loop-less Inv-loop μ-loop
 loop-less c =
-    let l = c .before .before .before .before .before .before in
+    let l = c .before .before .before .before .before .before .before .before in
     omega (arith, moves (s l) (at l .loop .at) (from l) (stop l) (found l), found l .block .inside)
 
 loop-again : tie.Need-loop-again Inv-loop μ-loop
 loop-again c =
-    let l = c .before .before .before .before .before .before in
-    let n = at l .loop .n in
-    let none : itemOver (item l) ≡ false = over (c .before .before) ∙ c .before .if1 .left in
-    let more : c .with .result ≡ withItem (itemIs (item l)) n = c .with .ensures ∙ ap (λ i. withItem i n) (c .before .before .before .item-at .ensures) in
-    let most = with-most (itemIs (item l)) n in
+    let w = c .before .before in
+    let l = w .before .before .before .before .before .before in
+    let most = with-most (itemIs (item l)) (at l .loop .n) in
     let far = moves (s l) (at l .loop .at) (from l) (stop l) (found l) in
-    let is = itemsFrom (ltb 0 (n .cues) || isCue (item l)) (fresh (s l) (stop l .at)) in
-    rw more (
+    let more = counted w in (
       found l .block .inside,
-      omega (arith, far, most .0),
-      omega (arith, far, most .1),
-      omega (arith, far, most .2),
-      rw (seen-next n (item l) none) (step l (tallyWith (withItem (itemIs (item l)) n) is) (tally-next n (item l) is none)),
+      rw more (omega (arith, far, most .0)),
+      rw more (omega (arith, far, most .1)),
+      rw more (omega (arith, far, most .2)),
+      rest w,
     )
 
 pub count-items-spec : {M : Type 1} → statement M
-count-items-spec = tie.close (tie.spec Inv-loop μ-loop loop-holds next-block-requires enum-known-next enum-told returns item-at-requires is-over-requires returns-2 with-requires loop-less loop-again)
+count-items-spec = tie.close (tie.spec Inv-loop μ-loop loop-holds next-block-requires enum-known-next enum-told returns item-at-requires is-over-requires returns-2 with-requires is-last-requires returns-3 loop-less loop-again)

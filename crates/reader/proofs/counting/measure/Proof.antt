@@ -10,7 +10,7 @@ use Rattle.format.specs.Lists.{itemsFrom, items}
 use Rattle.format.specs.Converting.{plainnessIs}
 use Rattle.laws.proofs.Answers.{not-plain, all-plain}
 use Rattle.reader.specs.Counting.{tallyIs}
-use Rattle.blocks.proofs.WalkLaws.{fresh}
+use Rattle.blocks.proofs.WalkLaws.{fresh, after-header}
 use Rattle.reader.proofs.ReadLaws.{too-long, refused-plain, unsigned, measured}
 use borrow.Author.Needs.{needs}
 use Rattle.reader.proofs.counting.measure.Statement.{statement}
@@ -60,7 +60,9 @@ past-header-requires : tie.Need-past-header-requires
 past-header-requires c κs = search needs
 
 count-items-requires : tie.Need-count-items-requires
-count-items-requires c κs = search needs
+count-items-requires c κs =
+    let s = c .before .before .before .before .before .before .before .before .args .s .now in
+    rw (c .past-header .ensures) (after-header s .0, c .before .before .before .before .before .before .if1 .left)
 
 counted-requires : tie.Need-counted-requires
 counted-requires c κs = search needs
@@ -73,7 +75,7 @@ returns-4 c =
     let told = found .before in
     let s = told .before .before .before .before .before .args .s .now in
     let all : tallyIs (itemsFrom false (fresh s (c .before .before .past-header .result))) ≡ tallyIs (items s) =
-    ap (λ bs. tallyIs (itemsFrom false bs)) (sym (c .before .before .past-header .ensures .1)) in
+    ap (λ p. tallyIs (itemsFrom false (fresh s p))) (c .before .before .past-header .ensures) ∙ ap (λ bs. tallyIs (itemsFrom false bs)) (sym (after-header s .1)) in
     rw (c .counted .ensures, c .before .count-items .ensures, all)
     (measured s (size (told .before .before .before)) (plain told) (sym (found .has-signature .ensures) ∙ not-false (found .has-signature .result) (out .if2 .left)))
 

@@ -1,12 +1,15 @@
 -- `reader::filling::fill` meets its contract.
 use Prim.Native.Nat.{ℕ, _-_}
-use mathlib.Core.Path.{_≡_}
+use mathlib.Core.Path.{_≡_, sym, _∙_}
 use mathlib.Core.List.{List, []}
 use native.Mathlib.Omega.{arith}
+use lib.Dec.{ltb}
 use lib.ListN.{length}
 use Rattle.blocks.specs.declared.collecting.Stop.{Stop}
-use Rattle.blocks.specs.Items.{NextAt}
-use Rattle.blocks.proofs.WalkLaws.{fresh, moves}
+use Rattle.blocks.specs.Items.{meaningAt, NextAt, itemIs}
+use Rattle.blocks.proofs.WalkLaws.{fresh, next-none, next-found, last, moves}
+use Rattle.reader.specs.Counting.{withItem}
+use Rattle.reader.specs.Filling.{cuesWith, regionsWith, stylesWith}
 use Rattle.reader.proofs.FillLaws.{Fits, fits-of, Filled, fill-start, fill-room, fill-next, fill-end, fill-lengths}
 use borrow.Author.Needs.{needs}
 use Rattle.reader.proofs.filling.fill.Statement.{statement}
@@ -63,7 +66,7 @@ returns c =
     let start = at .before .before in
     let a = start .args in
     let s = a .text .now in
-    let none : fresh s (at .loop .at) ≡ [] = rw (c .enum-told .given .1) at (c .before .before .next-block .ensures) in
+    let none : fresh s (at .loop .at) ≡ [] = next-none s (at .loop .at) (c .before .before .next-block .result) (c .before .before .next-block .ensures) (c .enum-told .given .1) in
     let full = fill-end s (a .cues .now) (a .regions .now) (a .styles .now) (fits start) (at .loop .at) (at .loop .n) (at .loop .cues) (at .loop .regions) (at .loop .styles) (at .loop .inv) none in
     (full .0, (full .1, full .2))
 
@@ -82,7 +85,7 @@ module _ (c : tie.After-next Inv-loop μ-loop) where
   stop = c .next .given .0 .1 .0
 
   found : NextAt s (at .loop .at) from stop
-  found = rw (c .next .given .1) at (c .before .before .next-block .ensures)
+  found = next-found s (at .loop .at) (c .before .before .next-block .result) (c .before .before .next-block .ensures) from stop (c .next .given .1)
 
 item-at-requires : tie.Need-item-at-requires Inv-loop μ-loop
 item-at-requires c κs =
@@ -99,28 +102,61 @@ put-requires c κs =
     rw (item .item-at .ensures)
     (fill-room (s l) (a .cues .now) (a .regions .now) (a .styles .now) (own .at) (from l) (stop l) (found l) (own .n) (own .cues) (own .regions) (own .styles) (own .inv) (fits start))
 
+-- the tables with the item's row
+more :
+    (c : tie.After-put Inv-loop μ-loop)
+    → let l = c .before .before .before .before .before .before .before in
+    let a = at l .before .before .args in
+    let own = at l .loop in
+    let i = itemIs (meaningAt (ltb 0 (own .n .cues)) (s l) (from l) (stop l)) in
+    Filled (s l) (a .cues .now) (a .regions .now) (a .styles .now) (stop l .at) (withItem i (own .n)) (cuesWith (s l) i (own .n) (own .regions) (own .cues))
+    (regionsWith i (own .n) (own .regions)) (stylesWith i (own .n) (own .styles))
+more c =
+    let l = c .before .before .before .before .before .before .before in
+    let start = at l .before .before in
+    let a = start .args in
+    let own = at l .loop in
+    fill-next (s l) (a .cues .now) (a .regions .now) (a .styles .now) (own .at) (from l) (stop l) (found l) (own .n) (own .cues) (own .regions) (own .styles) (own .inv) (fits start)
+
+is-last-requires : tie.Need-is-last-requires Inv-loop μ-loop
+is-last-requires c κs = search needs
+
+same-length-4 : tie.Need-same-length-4 Inv-loop μ-loop
+same-length-4 c = let stored = c .before .before .before .before .before in stored .put .kept .1 .1 .1 .0 ∙ lengths (at (stored .before .before .before .before .before .before .before)) .0
+
+same-length-5 : tie.Need-same-length-5 Inv-loop μ-loop
+same-length-5 c = let stored = c .before .before .before .before .before in stored .put .kept .1 .1 .1 .1 .0 ∙ lengths (at (stored .before .before .before .before .before .before .before)) .1
+
+same-length-6 : tie.Need-same-length-6 Inv-loop μ-loop
+same-length-6 c = let stored = c .before .before .before .before .before in stored .put .kept .1 .1 .1 .1 .1 .0 ∙ lengths (at (stored .before .before .before .before .before .before .before)) .2
+
+returns-2 : tie.Need-returns-2 Inv-loop μ-loop
+returns-2 c =
+    let stored = c .before .before .before .before .before in
+    let item = stored .before .before .before .before in
+    let l = item .before .before .before in
+    let start = at l .before .before in
+    let a = start .args in
+    let none = last (s l) (at l .loop .at) (from l) (stop l) (found l) (sym (c .before .is-last .ensures) ∙ c .if1 .taken) in
+    let full = fill-end (s l) (a .cues .now) (a .regions .now) (a .styles .now) (fits start) _ _ _ _ _ (more stored) none in
+    rw (stored .put .ensures .0, stored .put .ensures .1 .0, stored .put .ensures .1 .1, item .item-at .ensures) (full .0, (full .1, full .2))
+
 with-requires : tie.Need-with-requires Inv-loop μ-loop
 with-requires c κs =
-    let at = c .before .before .before .before .before .before .before .before .before .before .before .before .before in
+    let at = c .before .before .before .before .before .before .before .before .before .before .before .before .before .before .before in
     let inv = at .loop .inv in
     let pre = at .before .before .pre .0 in
     (omega (arith, inv .cues-most, inv .inside, pre .1), omega (arith, inv .regions-most, inv .inside, pre .1), omega (arith, inv .styles-most, inv .inside, pre .1))
 
 loop-less : tie.Need-loop-less Inv-loop μ-loop
 loop-less c =
-    let l = c .before .before .before .before .before .before .before .before .before .before .before in
+    let l = c .before .before .before .before .before .before .before .before .before .before .before .before .before in
     omega (arith, moves (s l) (at l .loop .at) (from l) (stop l) (found l), found l .block .inside)
 
 loop-again : tie.Need-loop-again Inv-loop μ-loop
 loop-again c =
-    let stored = c .before .before .before .before in
-    let item = stored .before .before .before .before in
-    let l = item .before .before .before in
-    let start = at l .before .before in
-    let a = start .args in
-    let own = at l .loop in
-    rw (c .with .ensures, stored .put .ensures .0, stored .put .ensures .1 .0, stored .put .ensures .1 .1, item .item-at .ensures)
-    (fill-next (s l) (a .cues .now) (a .regions .now) (a .styles .now) (own .at) (from l) (stop l) (found l) (own .n) (own .cues) (own .regions) (own .styles) (own .inv) (fits start))
+    let stored = c .before .before .before .before .before .before in
+    rw (c .with .ensures, stored .put .ensures .0, stored .put .ensures .1 .0, stored .put .ensures .1 .1, stored .before .before .before .before .item-at .ensures) (more stored)
 
 pub fill-spec : {M : Type 1} → statement M
-fill-spec = tie.close (tie.spec Inv-loop μ-loop loop-holds next-block-requires enum-known-next enum-told same-length same-length-2 same-length-3 returns item-at-requires put-requires with-requires loop-less loop-again)
+fill-spec = tie.close (tie.spec Inv-loop μ-loop loop-holds next-block-requires enum-known-next enum-told same-length same-length-2 same-length-3 returns item-at-requires put-requires is-last-requires same-length-4 same-length-5 same-length-6 returns-2 with-requires loop-less loop-again)

@@ -1,4 +1,4 @@
--- `blocks::items::definition` meets its contract.
+-- `blocks::inner::definition` meets its contract.
 use Prim.Native.Nat.{_+_}
 use mathlib.Core.Path.{sym, ap, _∙_}
 use native.Mathlib.Omega.{arith}
@@ -8,8 +8,8 @@ use Rattle.blocks.specs.Items.{part, regionItem}
 use Rattle.blocks.specs.declared.items.Item.the-variants as Read
 use Rattle.blocks.proofs.ItemLaws.{part-of, span-part, region-is}
 use borrow.Author.Needs.{needs}
-use Rattle.blocks.proofs.items.definition.Statement.{statement}
-use Rattle.blocks.proofs.items.definition.Tie as tie
+use Rattle.blocks.proofs.inner.definition.Statement.{statement}
+use Rattle.blocks.proofs.inner.definition.Tie as tie
 
 returns : tie.Need-returns
 returns c = rw (c .if1 .taken)

@@ -1,8 +1,8 @@
--- `blocks::items::timed_item` meets its contract.
+-- `blocks::inner::timed_item` meets its contract.
 use mathlib.Core.Path.{sym, _∙_}
 use borrow.Author.Needs.{needs}
-use Rattle.blocks.proofs.items.timed_item.Statement.{statement}
-use Rattle.blocks.proofs.items.timed_item.Tie as tie
+use Rattle.blocks.proofs.inner.timed_item.Statement.{statement}
+use Rattle.blocks.proofs.inner.timed_item.Tie as tie
 
 line-of-requires : tie.Need-line-of-requires
 line-of-requires c κs = search needs

@@ -1,8 +1,8 @@
--- `blocks::items::after_line` meets its contract.
+-- `blocks::inner::after_line` meets its contract.
 use borrow.Author.Tests.{eq-eqb, ne-eqb}
 use borrow.Author.Needs.{needs}
-use Rattle.blocks.proofs.items.after_line.Statement.{statement}
-use Rattle.blocks.proofs.items.after_line.Tie as tie
+use Rattle.blocks.proofs.inner.after_line.Statement.{statement}
+use Rattle.blocks.proofs.inner.after_line.Tie as tie
 
 returns : tie.Need-returns
 returns c = let a = c .before .args in rw (eq-eqb (a .end) (a .to) (c .if1 .taken))

@@ -1,6 +1,6 @@
--- `blocks::items::region_item` meets its contract.
-use Rattle.blocks.proofs.items.region_item.Statement.{statement}
-use Rattle.blocks.proofs.items.region_item.Tie as tie
+-- `blocks::inner::region_item` meets its contract.
+use Rattle.blocks.proofs.inner.region_item.Statement.{statement}
+use Rattle.blocks.proofs.inner.region_item.Tie as tie
 
 returns : tie.Need-returns
 returns c = rw (c .if1 .taken)

@@ -1,4 +1,4 @@
--- `blocks::items::item_at` meets its contract.
+-- `blocks::inner::item_at` meets its contract.
 use Prim.Native.Nat.{_+_}
 use mathlib.Core.Path.{_∙_}
 use native.Mathlib.Omega.{arith}
@@ -9,8 +9,8 @@ use Rattle.format.specs.TimingLines.{timingLine}
 use Rattle.blocks.specs.Items.{part, afterLine, meaningAt}
 use Rattle.blocks.proofs.ItemLaws.{part-of, span-part, after-span, timed-is}
 use borrow.Author.Needs.{needs}
-use Rattle.blocks.proofs.items.item_at.Statement.{statement}
-use Rattle.blocks.proofs.items.item_at.Tie as tie
+use Rattle.blocks.proofs.inner.item_at.Statement.{statement}
+use Rattle.blocks.proofs.inner.item_at.Tie as tie
 
 returns : tie.Need-returns
 unfolding meaningAt

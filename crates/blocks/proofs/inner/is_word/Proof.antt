@@ -1,4 +1,4 @@
--- `blocks::items::is_word` meets its contract.
+-- `blocks::inner::is_word` meets its contract.
 use mathlib.Core.Path.{sym, _∙_}
 use lib.ListN.{length}
 use lib.Seq.{length-take-le}
@@ -6,8 +6,8 @@ use borrow.Author.Tests.{not-true, not-false}
 use Rattle.format.specs.Bytes.{white}
 use Rattle.blocks.proofs.ItemLaws.{word-short, word-is, run-to-end}
 use borrow.Author.Needs.{needs}
-use Rattle.blocks.proofs.items.is_word.Statement.{statement}
-use Rattle.blocks.proofs.items.is_word.Tie as tie
+use Rattle.blocks.proofs.inner.is_word.Statement.{statement}
+use Rattle.blocks.proofs.inner.is_word.Tie as tie
 
 returns : tie.Need-returns
 returns c = let a = c .before .before .before .args in sym (word-short (a .word .now) (a .line .now) (c .if1 .taken))
