@@ -2,7 +2,7 @@
 use format::Plainness;
 use format::Tree;
 use format::rows::NodeRow;
-use node_sizes::measuring::Need;
+use node_sizes::inner::measuring::Need;
 ghost use mathlib.Core.Path.{_≡_};
 ghost use Prim.Native.Nat.{ℕ, _≤_};
 ghost use lib.ListN.{length, take};
@@ -29,7 +29,7 @@ fn read_sized(
     if nodes.len() < count {
         return Tree::TableTooShort(count);
     }
-    node_rows::filling::fill(text, room, nodes);
+    node_rows::inner::filling::fill(text, room, nodes);
     Tree::Nodes { count, used }
 }
 
@@ -38,7 +38,7 @@ fn read_plain(text: &[u8], room: &mut [u8], nodes: &mut [NodeRow]) -> Tree
     requires { ⌜ length (now text) ≤ maxText ⌝ }
     ensures { λ r. ⌜ Answers (timedAnswer (now (text .entry)) (length (now (room .entry))) (length (now (nodes .entry)))) (now (text .entry)) r (now (room .entry)) (now (room .exit)) (now (nodes .entry)) (now (nodes .exit)) ⌝ }
 {
-    match node_sizes::measuring::need_of(text) {
+    match node_sizes::inner::measuring::need_of(text) {
         Need::Over => Tree::OverLimit,
         Need::Sizes { count, used } => read_sized(text, count, used, room, nodes),
     }

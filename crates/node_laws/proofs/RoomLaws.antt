@@ -23,8 +23,8 @@ use Rattle.tokenizer.proofs.Tags.{notGreater, tag-token}
 use Rattle.strings.specs.Stores.{separates, one}
 use Rattle.strings.proofs.TextLaws.{decoded-length, collapsed-length, class-string}
 use Rattle.nodes.specs.Tokens.{madeIs, tokenClasses, tokenValue}
-use Rattle.nodes.specs.declared.tokens.Made.{Made}
-use Rattle.nodes.specs.declared.tokens.Made.the-variants as Made
+use Rattle.nodes.specs.declared.inner.tokens.Made.{Made}
+use Rattle.nodes.specs.declared.inner.tokens.Made.the-variants as Made
 use Rattle.node_laws.specs.Sizes.{topKind, kindsAfter, madeCount, madeLength, countFrom, lengthFrom}
 use Rattle.node_laws.proofs.TreeLaws.{nodeStrings-append}
 

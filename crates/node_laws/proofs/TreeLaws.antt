@@ -17,8 +17,8 @@ use Rattle.format.specs.declared.kinds.NodeKind.{NodeKind}
 use Rattle.format.specs.declared.kinds.NodeKind.the-variants as NodeKind
 use Rattle.laws.proofs.Tests.{by-test, or-first, or-second}
 use Rattle.nodes.specs.Tokens.{elementMade, stampMade, madeIs, tokenClasses, tokenValue, leftKind}
-use Rattle.nodes.specs.declared.tokens.Made.{Made}
-use Rattle.nodes.specs.declared.tokens.Made.the-variants as Made
+use Rattle.nodes.specs.declared.inner.tokens.Made.{Made}
+use Rattle.nodes.specs.declared.inner.tokens.Made.the-variants as Made
 use Rattle.node_laws.specs.Sizes.{kindsOf, topKind, leavingKinds, afterMade, kindsAfter, madeCount, madeLength, countFrom, lengthFrom}
 
 -- a kind that a tag names has children

@@ -10,8 +10,8 @@ use Rattle.format.specs.Trees.{Open, kindWord, isKind}
 use Rattle.format.specs.declared.kinds.NodeKind.{NodeKind}
 use Rattle.format.specs.declared.kinds.NodeKind.the-variants as NodeKind
 use Rattle.nodes.specs.Tokens.{madeIs, tokenClasses, tokenValue, leftKind}
-use Rattle.nodes.specs.declared.tokens.Made.{Made}
-use Rattle.nodes.specs.declared.tokens.Made.the-variants as Made
+use Rattle.nodes.specs.declared.inner.tokens.Made.{Made}
+use Rattle.nodes.specs.declared.inner.tokens.Made.the-variants as Made
 
 -- the kinds of the open nodes, current first
 unfoldable pub kindsOf : List Open → List NodeKind

@@ -21,9 +21,9 @@ use Rattle.laws.proofs.Tests.{by-test, or-first, or-second}
 use Rattle.strings.specs.Stores.{stored, Stores}
 use Rattle.strings.proofs.StoreLaws.{stored-within, _then_}
 use Rattle.nodes.specs.Tokens.{madeIs, tokenClasses, tokenValue, leftKind}
-use Rattle.nodes.specs.declared.tokens.Made.{Made}
+use Rattle.nodes.specs.declared.inner.tokens.Made.{Made}
 use Rattle.node_rows.specs.Rows.{noRow, nodeNamed, upIn, kindIn, leftOf, leftIn, nodeBelow, Puts, Turned, Fits}
-use Rattle.node_rows.specs.declared.filling.Filled.{Filled}
+use Rattle.node_rows.specs.declared.inner.filling.Filled.{Filled}
 use Rattle.node_laws.proofs.TreeLaws.{leaving-keeps, Gives, ignored, above, attaches, gives, nodeStrings-append}
 use Rattle.node_laws.proofs.RoomLaws.{room-bound}
 use Rattle.node_laws.proofs.RowLaws.{parent-named, named-word, kind-numbered, length-rows}

@@ -12,10 +12,10 @@ use Rattle.format.specs.Trees.{Node, kindWord, isKind, parentWord, nodeWords, p
 use Rattle.format.specs.declared.kinds.NodeKind.{NodeKind}
 use Rattle.format.specs.declared.kinds.NodeKind.the-variants as NodeKind
 use Rattle.nodes.specs.Tokens.{tokenClasses, tokenValue, leftKind}
-use Rattle.nodes.specs.declared.tokens.Made.{Made}
-use Rattle.nodes.specs.declared.tokens.Made.the-variants as Made
+use Rattle.nodes.specs.declared.inner.tokens.Made.{Made}
+use Rattle.nodes.specs.declared.inner.tokens.Made.the-variants as Made
 use Rattle.strings.specs.Stores.{stored}
-use Rattle.node_rows.specs.declared.filling.Filled.{Filled}
+use Rattle.node_rows.specs.declared.inner.filling.Filled.{Filled}
 
 -- does a word name no row
 unfoldable pub noRow : List (List ℕ) → ℕ → Bool

@@ -23,14 +23,14 @@ use Rattle.tokenizer.specs.declared.Token.the-variants as Token
 use Rattle.tokenizer.proofs.Spans.{wider}
 use Rattle.format.specs.declared.settings.Span.{Span}
 use Rattle.nodes.specs.Tokens.{elementMade, stampMade, madeIs, leftKind}
-use Rattle.nodes.specs.declared.tokens.Made.{Made}
-use Rattle.nodes.specs.declared.tokens.Made.the-variants as Made
+use Rattle.nodes.specs.declared.inner.tokens.Made.{Made}
+use Rattle.nodes.specs.declared.inner.tokens.Made.the-variants as Made
 use Rattle.stack.specs.Kinds.{kinds, Holds, Emptied}
-use Rattle.stack.specs.declared.kinds.Stack.{Stack}
+use Rattle.stack.specs.declared.inner.kinds.Stack.{Stack}
 use Rattle.node_laws.specs.Sizes.{kindsOf, topKind, leavingKinds, afterMade, kindsAfter, madeCount, madeLength, countFrom, lengthFrom}
 use Rattle.node_sizes.specs.Needs.{Sized}
 use Rattle.node_sizes.specs.Turns.{opened, madeBelow, Ready, Passed}
-use Rattle.node_sizes.specs.declared.measuring.Measured.{Measured}
+use Rattle.node_sizes.specs.declared.inner.measuring.Measured.{Measured}
 use Rattle.node_laws.proofs.TreeLaws.{counted}
 use Rattle.node_laws.proofs.RoomLaws.{length-bound, count-bound}
 

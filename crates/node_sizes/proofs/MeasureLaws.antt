@@ -16,13 +16,13 @@ use Rattle.laws.proofs.Tests.{by-test}
 use Rattle.tokenizer.specs.Tags.{tokenIs}
 use Rattle.tokenizer.specs.declared.Token.{Token}
 use Rattle.nodes.specs.Tokens.{elementMade, stampMade, madeIs, tokenClasses, tokenValue, leftKind}
-use Rattle.nodes.specs.declared.tokens.Made.{Made}
-use Rattle.nodes.specs.declared.tokens.Made.the-variants as Made
+use Rattle.nodes.specs.declared.inner.tokens.Made.{Made}
+use Rattle.nodes.specs.declared.inner.tokens.Made.the-variants as Made
 use Rattle.stack.specs.Kinds.{kinds, topOf, Popped}
-use Rattle.stack.specs.declared.kinds.Stack.{Stack}
+use Rattle.stack.specs.declared.inner.kinds.Stack.{Stack}
 use Rattle.node_laws.specs.Sizes.{topKind, leavingKinds, afterMade, kindsAfter, madeCount, madeLength}
 use Rattle.node_sizes.specs.Turns.{opened, Left, Entered, madeBelow, Passed}
-use Rattle.node_sizes.specs.declared.measuring.Measured.{Measured}
+use Rattle.node_sizes.specs.declared.inner.measuring.Measured.{Measured}
 
 -- what an end tag leaves, by the top kind
 module _ (named : Option NodeKind) where

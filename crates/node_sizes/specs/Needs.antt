@@ -6,8 +6,8 @@ use mathlib.Core.List.{List}
 use lib.ListN.{length}
 use Rattle.format.specs.CueText.{cueTokens}
 use Rattle.format.specs.Trees.{nodes, nodeStrings, anyTimeOver}
-use Rattle.node_sizes.specs.declared.measuring.Need.{Need}
-use Rattle.node_sizes.specs.declared.measuring.Need.the-variants as Need
+use Rattle.node_sizes.specs.declared.inner.measuring.Need.{Need}
+use Rattle.node_sizes.specs.declared.inner.measuring.Need.the-variants as Need
 
 pub record Sized (s : List ℕ) (count used : ℕ) : Type 0 where
   pub within : anyTimeOver (cueTokens s) ≡ false

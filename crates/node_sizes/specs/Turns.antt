@@ -12,13 +12,13 @@ use Rattle.format.specs.declared.kinds.NodeKind.{NodeKind}
 use Rattle.tokenizer.specs.Tags.{tokenIs, PartsIn}
 use Rattle.tokenizer.specs.declared.Token.{Token}
 use Rattle.nodes.specs.Tokens.{madeIs}
-use Rattle.nodes.specs.declared.tokens.Made.{Made}
+use Rattle.nodes.specs.declared.inner.tokens.Made.{Made}
 use Rattle.stack.specs.Kinds.{kinds, Holds}
-use Rattle.stack.specs.declared.kinds.Stack.{Stack}
+use Rattle.stack.specs.declared.inner.kinds.Stack.{Stack}
 use Rattle.node_laws.specs.Sizes.{topKind, leavingKinds, kindsAfter, madeCount, madeLength}
-use Rattle.node_sizes.specs.declared.measuring.Measured.{Measured}
-use Rattle.node_sizes.specs.declared.measuring.Turned.{Turned}
-use Rattle.node_sizes.specs.declared.measuring.Turned.the-variants as Turned
+use Rattle.node_sizes.specs.declared.inner.measuring.Measured.{Measured}
+use Rattle.node_sizes.specs.declared.inner.measuring.Turned.{Turned}
+use Rattle.node_sizes.specs.declared.inner.measuring.Turned.the-variants as Turned
 
 -- the kinds of the open nodes, whose words are on the stack
 abbrev pub opened : Stack → List ℕ → List NodeKind

@@ -17,8 +17,8 @@ use Rattle.values.specs.Times.{stampIs}
 use Rattle.values.specs.declared.times.Stamp.{Stamp}
 use Rattle.values.specs.declared.times.Stamp.the-variants as Stamp
 use Rattle.nodes.specs.Tokens.{stampMade}
-use Rattle.nodes.specs.declared.tokens.Made.{Made}
-use Rattle.nodes.specs.declared.tokens.Made.the-variants as Made
+use Rattle.nodes.specs.declared.inner.tokens.Made.{Made}
+use Rattle.nodes.specs.declared.inner.tokens.Made.the-variants as Made
 
 -- what a stamp that was read of a text of this length gives
 abbrev told : ℕ → Stamp → Made

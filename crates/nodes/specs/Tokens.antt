@@ -10,8 +10,8 @@ use Rattle.format.specs.declared.kinds.NodeKind.{NodeKind}
 use Rattle.format.specs.declared.kinds.NodeKind.the-variants as NodeKind
 use Rattle.nodes.specs.declared.kinds.MaybeKind.{MaybeKind}
 use Rattle.nodes.specs.declared.kinds.MaybeKind.the-variants as MaybeKind
-use Rattle.nodes.specs.declared.tokens.Made.{Made}
-use Rattle.nodes.specs.declared.tokens.Made.the-variants as Made
+use Rattle.nodes.specs.declared.inner.tokens.Made.{Made}
+use Rattle.nodes.specs.declared.inner.tokens.Made.the-variants as Made
 
 abbrev pub kindIs : MaybeKind → Option NodeKind
 kindIs MaybeKind.None = none

@@ -10,7 +10,7 @@ use lib.Seq.{getD-set-other}
 use borrow.Author.Tests.{eqb-true, eqb-false}
 use Rattle.laws.proofs.Tests.{by-test}
 use Rattle.stack.specs.Kinds.{digits, unload, kinds, topOf, Holds}
-use Rattle.stack.specs.declared.kinds.Stack.{Stack}
+use Rattle.stack.specs.declared.inner.kinds.Stack.{Stack}
 
 pub length-digits : (n w : ℕ) → length (digits n w) ≡ n
 unfolding digits

@@ -3,7 +3,7 @@ use Prim.Native.Nat.{ℕ, zero, suc, _/_, _%_, _^_, _≤_, _<_}
 use mathlib.Core.Path.{_≡_}
 use mathlib.Core.List.{List, [], _∷_, _++_}
 use lib.ListN.{length, getD, drop}
-use Rattle.stack.specs.declared.kinds.Stack.{Stack}
+use Rattle.stack.specs.declared.inner.kinds.Stack.{Stack}
 
 -- the kinds in a word, last put first
 unfoldable pub digits : ℕ → ℕ → List ℕ

@@ -1,3 +1,2 @@
-// The strings of a cue text's nodes put into a room. The functions are inner ones, for the crates above: they ask for places within the text
-// and for a place in the room that no sum can carry beyond a number.
-pub mod puts;
+// The strings of a cue text's nodes put into a room.
+pub mod inner;

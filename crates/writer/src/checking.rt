@@ -18,7 +18,12 @@ pub enum Checked {
     },
 }
 
-pub(crate) fn check(text: &[u8], styles: &[StyleRow], regions: &[RegionRow], cues: &[CueRow]) -> Checked
+pub(crate) fn check(
+    text: &[u8],
+    styles: &[StyleRow],
+    regions: &[RegionRow],
+    cues: &[CueRow],
+) -> Checked
     ensures { λ r. ⌜ ((answer : Answer) → unless r answer ≡ unlessFailing (firstIn 0 (styleFails (now (text .entry))) 0 (now (styles .entry))) (unlessFailing (firstIn 1 (regionFails (now (text .entry))) 0 (now (regions .entry))) (unlessFailing (firstIn 2 (cueFails (now (text .entry)) (now (regions .entry))) 0 (now (cues .entry))) answer))) ⌝ }
 {
     if let Fault::At { index, test } = writable::first_style(text, styles) {
