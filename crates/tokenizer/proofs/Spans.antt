@@ -8,15 +8,16 @@ use native.Mathlib.Omega.{arith}
 use lib.Dec.{eqb}
 use lib.ListN.{length, getD, take, drop}
 use lib.Seq.{take-take, length-take-le, getD-take, drop-cons}
-use borrow.Author.Tests.{eq-eqb, ne-eqb}
+use borrow.Author.Tests.{eq-eqb, ne-eqb, lt-ltb, le-ltb}
 use Rattle.format.specs.Bytes.{fullStop, solidus, less, digit}
 use Rattle.format.specs.Texts.{run, pastRun, bytesAt}
 use Rattle.format.specs.CueText.{blank, cueTokens}
 use Rattle.laws.proofs.Tests.{by-test}
 use Rattle.laws.proofs.Runs.{RunAt, run-at, run-first, run-after, run-moves, drop-take}
-use Rattle.tokenizer.specs.Tags.{inName, tokenIs, startOf, tagOf, PartsIn, StartAt, TagAt, Marked, TokenAt}
+use Rattle.tokenizer.specs.Tags.{inName, tokenIs, startOf, tagOf, PartsIn, StartAt, TagAt, Marked, TokenAt, nameTo, classesTo, startIs, tagIs, stringTo, tagTo, afterTag, stepIs}
 use Rattle.tokenizer.specs.declared.Token.{Token}
 use Rattle.tokenizer.specs.declared.Token.the-variants as Token
+use Rattle.tokenizer.specs.declared.Stepped.the-variants as Stepped
 use Rattle.tokenizer.proofs.Strings.{notLess, string-token}
 use Rattle.tokenizer.proofs.Tags.{notGreater, name-blank, name-other, tag-token}
 
@@ -221,3 +222,52 @@ module _ (s : List ℕ) (at : ℕ) (h : at < length s) where
           parts = wider s t at (at + 1) to next (omega arith) l i (g .parts);
           marked = marks s t at to next w (g .parts);
         }
+
+-- what the code finds, by its tests
+pub start-found :
+    (s : List ℕ) (from to n w : ℕ)
+    → n ≡ nameTo s from to
+    → w ≡ classesTo s n to
+    → Token.Start (record { from = from; to = n }) (record { from = n; to = w }) (record { from = w; to = to }) ≡ startIs s from to
+unfolding startIs
+start-found s from to n w en ew = rw (ew, en)
+
+module _ (s : List ℕ) (from to : ℕ) where
+  pub tag-none : to ≤ from → startIs s from to ≡ tagIs s from to
+  unfolding tagIs
+  tag-none h = rw (le-ltb from to h)
+
+  module _ (h : from < to) where
+    pub tag-end : getD s from 0 ≡ solidus → Token.End (record { from = from + 1; to = to }) ≡ tagIs s from to
+    unfolding tagIs
+    tag-end e = rw (lt-ltb from to h, eq-eqb (getD s from 0) solidus e)
+
+    module _ (n : getD s from 0 ≡ solidus → ⊥) where
+      pub tag-time : digit (getD s from 0) ≡ true → Token.Timestamp (record { from = from; to = to }) ≡ tagIs s from to
+      unfolding tagIs
+      tag-time d = rw (lt-ltb from to h, ne-eqb (getD s from 0) solidus n, d)
+
+      pub tag-start : digit (getD s from 0) ≡ false → startIs s from to ≡ tagIs s from to
+      unfolding tagIs
+      tag-start d = rw (lt-ltb from to h, ne-eqb (getD s from 0) solidus n, d)
+
+module _ (s : List ℕ) (at : ℕ) where
+  pub step-none : length s ≤ at → Stepped.None ≡ stepIs s at
+  unfolding stepIs
+  step-none h = rw (le-ltb at (length s) h)
+
+  module _ (h : at < length s) where
+    pub step-string :
+        (getD s at 0 ≡ less → ⊥) → (to : ℕ) → to ≡ stringTo s at → Stepped.Next (Token.String (record { from = at; to = to })) to ≡ stepIs s at
+    unfolding stepIs
+    step-string n to e = rw (lt-ltb at (length s) h, ne-eqb (getD s at 0) less n, e)
+
+    pub step-tag :
+        getD s at 0 ≡ less
+        → (to : ℕ)
+        → to ≡ tagTo s (at + 1)
+        → (t : Token)
+        → t ≡ tagIs s (at + 1) to
+        → Stepped.Next t (afterTag s to) ≡ stepIs s at
+    unfolding stepIs
+    step-tag y to e t k = rw (lt-ltb at (length s) h, eq-eqb (getD s at 0) less y, k, e)

@@ -1,11 +1,11 @@
 -- A token as parts of the text: what each part stands for, and that it is the token at a place.
-use Prim.Native.Nat.{ℕ, _≤_, _<_}
+use Prim.Native.Nat.{ℕ, _+_, _≤_, _<_}
 use mathlib.Core.Path.{_≡_}
 use mathlib.Core.Bool.{Bool, true, false, cond, not, _&&_, _||_}
 use mathlib.Core.List.{List, [], _∷_, _++_}
-use lib.Dec.{eqb}
-use lib.ListN.{length, getD, drop}
-use Rattle.format.specs.Bytes.{fullStop, solidus, space, digit, white}
+use lib.Dec.{eqb, ltb}
+use lib.ListN.{length, getD, take, drop}
+use Rattle.format.specs.Bytes.{fullStop, solidus, space, less, greater, digit, white}
 use Rattle.format.specs.Texts.{run, pastRun, bytesAt}
 use Rattle.format.specs.Lines.{onFirst}
 use Rattle.format.specs.CueText.{stringToken, startTag, endTag, timestampTag, blank, collapsed, cueTokens}
@@ -105,3 +105,38 @@ pub record TokenAt (s : List ℕ) (at : ℕ) (t : Token) (next : ℕ) : Type 0 w
 abbrev pub StepAt : List ℕ → ℕ → Stepped → Type 0
 StepAt s at Stepped.None = length s ≤ at
 StepAt s at (Stepped.Next t next) = TokenAt s at t next
+
+-- the same by the places that the code finds: where a name ends that begins at a place, and where the classes after it do
+abbrev pub nameTo : List ℕ → ℕ → ℕ → ℕ
+nameTo s from to = from + length (run (inName true) (drop from (take to s)))
+
+abbrev pub classesTo : List ℕ → ℕ → ℕ → ℕ
+classesTo s n to = n + length (run (inName false) (drop n (take to s)))
+
+unfoldable pub startIs : List ℕ → ℕ → ℕ → Token
+startIs s from to =
+    Token.Start (record { from = from; to = nameTo s from to }) (record { from = nameTo s from to; to = classesTo s (nameTo s from to) to })
+    (record { from = classesTo s (nameTo s from to) to; to = to })
+
+unfoldable pub tagIs : List ℕ → ℕ → ℕ → Token
+tagIs s from to =
+    cond (ltb from to)
+    (cond (eqb (getD s from 0) solidus) (Token.End (record { from = from + 1; to = to }))
+    (cond (digit (getD s from 0)) (Token.Timestamp (record { from = from; to = to })) (startIs s from to)))
+    (startIs s from to)
+
+abbrev pub stringTo : List ℕ → ℕ → ℕ
+stringTo s at = at + length (run (λ b. not (eqb b less)) (drop at s))
+
+abbrev pub tagTo : List ℕ → ℕ → ℕ
+tagTo s from = from + length (run (λ b. not (eqb b greater)) (drop from s))
+
+abbrev pub afterTag : List ℕ → ℕ → ℕ
+afterTag s to = cond (ltb to (length s)) (to + 1) to
+
+unfoldable pub stepIs : List ℕ → ℕ → Stepped
+stepIs s at =
+    cond (ltb at (length s))
+    (cond (eqb (getD s at 0) less) (Stepped.Next (tagIs s (at + 1) (tagTo s (at + 1))) (afterTag s (tagTo s (at + 1))))
+    (Stepped.Next (Token.String (record { from = at; to = stringTo s at })) (stringTo s at)))
+    Stepped.None

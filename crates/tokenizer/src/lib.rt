@@ -8,7 +8,7 @@ ghost use Prim.Native.Nat.{_+_, _≤_};
 ghost use lib.ListN.{length, drop};
 ghost use Rattle.format.specs.Texts.{run};
 ghost use Rattle.format.specs.CueText.{blank};
-ghost use Rattle.tokenizer.specs.Tags.{inName, StartAt, TagAt, StepAt};
+ghost use Rattle.tokenizer.specs.Tags.{inName, startIs, StartAt, tagIs, TagAt, stepIs, StepAt};
 
 pub enum Token {
     // Text with its escapes.
@@ -76,7 +76,8 @@ fn name_end(s: &[u8], at: usize, stops: bool) -> usize
 // The start tag of what stands from one place up to another.
 fn start_tag(text: &[u8], from: usize, to: usize) -> Token
     requires { ⌜ (from ≤ to) × (to ≤ length (now text)) ⌝ }
-    ensures { λ r. ⌜ StartAt (now (text .entry)) from to r ⌝ }
+    ensures is { λ r. ⌜ r ≡ startIs (now (text .entry)) from to ⌝ }
+    ensures at { λ r. ⌜ StartAt (now (text .entry)) from to r ⌝ }
 {
     let body = &text[..to];
     let classes = name_end(body, from, true);
@@ -97,7 +98,8 @@ fn start_tag(text: &[u8], from: usize, to: usize) -> Token
 // The tag of what stands between `<` and `>`.
 fn tag(text: &[u8], from: usize, to: usize) -> Token
     requires { ⌜ (from ≤ to) × (to ≤ length (now text)) ⌝ }
-    ensures { λ r. ⌜ TagAt (now (text .entry)) from to r ⌝ }
+    ensures is { λ r. ⌜ r ≡ tagIs (now (text .entry)) from to ⌝ }
+    ensures at { λ r. ⌜ TagAt (now (text .entry)) from to r ⌝ }
 {
     if to <= from {
         return start_tag(text, from, to);
@@ -114,7 +116,8 @@ fn tag(text: &[u8], from: usize, to: usize) -> Token
 
 // The token that begins at a place. A tag ends at the first `>`, text at the next `<`.
 pub fn step(text: &[u8], at: usize) -> Stepped
-    ensures { λ r. ⌜ StepAt (now (text .entry)) at r ⌝ }
+    ensures is { λ r. ⌜ r ≡ stepIs (now (text .entry)) at ⌝ }
+    ensures at { λ r. ⌜ StepAt (now (text .entry)) at r ⌝ }
 {
     if text.len() <= at {
         return Stepped::None;

@@ -42,7 +42,7 @@ returns c =
     let at = c .before .before .before in
     let args = at .before .before .before .before .args in
     reached-end (args .text .now) (args .words .now) (at .loop .at) (at .loop .m) (at .loop .words) (at .loop .inv)
-    (rw (c .enum-told .given .1) at (c .before .before .step .ensures))
+    (rw (c .enum-told .given .1) at (c .before .before .step .ensures .1))
 
 -- the token that was found
 module _ (c : tie.After-stepped Inv-loop μ-loop) where
@@ -62,7 +62,7 @@ module _ (c : tie.After-stepped Inv-loop μ-loop) where
   next = c .stepped .given .0 .1 .0
 
   found : TokenAt s (at .loop .at) token next
-  found = rw (c .stepped .given .1) at (c .before .before .step .ensures)
+  found = rw (c .stepped .given .1) at (c .before .before .step .ensures .1)
 
 turn-requires : tie.Need-turn-requires Inv-loop μ-loop
 turn-requires c κs =
