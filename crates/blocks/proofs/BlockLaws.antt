@@ -24,9 +24,9 @@ use Rattle.laws.proofs.Runs.{run-next, run-take, run-length, run-at, run-after}
 use Rattle.values.proofs.NumberLaws.{is-empty-not}
 use Rattle.blocks.specs.declared.collecting.Head.{Head}
 use Rattle.blocks.specs.declared.collecting.Stop.{Stop}
-use Rattle.blocks.specs.Collecting.{lineEnds, linesFrom, headAfter, collectFrom}
+use Rattle.blocks.specs.Collecting.{lineEnds, linesFrom, headAfter, collectFrom, inLine, lineAt}
 use Rattle.blocks.specs.Items.{part, afterLine, cueWith, definitionWith, meaningAt, BlockAt}
-use Rattle.blocks.proofs.LineLaws.{inLine, lineAt, lineFrom, lines-next, lines-end, collect-line}
+use Rattle.blocks.proofs.LineLaws.{lineFrom, lines-next, lines-end, collect-line}
 
 -- how many of the next lines can be the timing line, after one line more
 nextLeft : ℕ → Bool → ℕ

@@ -17,10 +17,7 @@ use Rattle.laws.proofs.Runs.{run-next, run-stop, run-end, run-length}
 use Rattle.values.proofs.NumberLaws.{is-empty-not}
 use Rattle.blocks.specs.declared.collecting.Head.{Head}
 use Rattle.blocks.specs.declared.collecting.Why.the-variants as Why
-use Rattle.blocks.specs.Collecting.{lineEnds, linesFrom, headAfter, collectFrom}
-
-abbrev pub inLine : ℕ → Bool
-inLine b = not (eqb b lf)
+use Rattle.blocks.specs.Collecting.{lineEnds, linesFrom, headAfter, collectFrom, inLine, lineAt}
 
 -- the lines after a text's first line
 others : List ℕ → List (List ℕ)
@@ -55,10 +52,7 @@ ends-line (b ∷ x) h =
     (λ y. rw y)
     (λ n. let l : suc (length (run inLine x)) < suc (length x) = rw n at h in rw n (omega (arith, ends-line x (omega arith))))
 
--- the bytes of the line that begins at a place, and that line
-abbrev pub lineAt : List ℕ → ℕ → List ℕ
-lineAt s p = run inLine (drop p s)
-
+-- the line that begins at a place
 abbrev pub lineFrom : List ℕ → ℕ → Line
 lineFrom s p = record { number = lineEnds (take p s); place = p; bytes = lineAt s p }
 

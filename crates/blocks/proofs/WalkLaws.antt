@@ -1,14 +1,14 @@
 -- Items one after the other, as a loop over the blocks of a text finds them.
-use Prim.Native.Nat.{ℕ, zero, suc, _+_, _-_, _≤_, _<_}
+use Prim.Native.Nat.{ℕ, zero, suc, _+_, _≤_, _<_}
 use mathlib.Core.Path.{_≡_, refl, sym, ap, _∙_}
 use mathlib.Core.Bool.{Bool, true, false, not, _&&_, _||_, true≢false}
 use mathlib.Core.List.{List, [], _∷_}
 use native.Mathlib.Omega.{arith}
 use lib.Dec.{eqb, ltb}
-use lib.ListN.{length, getD, drop}
+use lib.ListN.{length, getD}
 use borrow.Author.Tests.{eqb-true, eqb-false, ltb-true, ltb-false}
 use Rattle.format.specs.Bytes.{lf}
-use Rattle.format.specs.Texts.{isEmpty, run}
+use Rattle.format.specs.Texts.{isEmpty}
 use Rattle.format.specs.Blocks.{Line, between, blocksFrom, blocks, holdsArrow}
 use Rattle.format.specs.Lists.{Item, nothing, cue, style, region, isCue, itemsFrom, itemOver}
 use Rattle.laws.proofs.Tests.{by-test, and-left, and-right}
@@ -19,9 +19,9 @@ use Rattle.blocks.specs.declared.collecting.Why.{Why}
 use Rattle.blocks.specs.declared.collecting.Why.the-variants as Why
 use Rattle.blocks.specs.declared.Next.{Next}
 use Rattle.blocks.specs.declared.Next.the-variants as Next
-use Rattle.blocks.specs.Collecting.{linesFrom, headAfter, collectFrom, opening, headerEnd, pastEmpty, nextIs, isEnd, WhyIs}
+use Rattle.blocks.specs.Collecting.{linesFrom, headAfter, collectFrom, opening, inLine, lineAt, firstEnd, headerEnd, pastEmpty, nextIs, isEnd, WhyIs}
 use Rattle.blocks.specs.Items.{meaningAt, NextAt, NextIs, itemIs, isOver}
-use Rattle.blocks.proofs.LineLaws.{inLine, lineAt, lineFrom, lines-next, lines-end, collect-empty, collect-arrow, collect-line}
+use Rattle.blocks.proofs.LineLaws.{lineFrom, lines-next, lines-end, collect-empty, collect-arrow, collect-line}
 use Rattle.blocks.proofs.BlockLaws.{fresh-empty, fresh-after, block-at, header-at, blocks-after, no-blocks, line-inside}
 use Rattle.blocks.proofs.ItemLaws.{no-bytes, some-bytes}
 
@@ -33,7 +33,7 @@ fresh s at = blocksFrom between (linesFrom s at)
 pub after-header : (s : List ℕ) → (headerEnd s ≤ length s) × (blocks s ≡ fresh s (headerEnd s))
 unfolding headerEnd
 after-header s =
-    let e = 0 + length (lineAt s 0) in
+    let e = firstEnd s in
     by-test (eqb e (length s))
     (λ y. let l = eqb-true e (length s) y in rw y (omega arith, no-blocks s e refl l))
     (λ n. let l : e + 1 ≤ length s = omega (arith, run-length inLine s, eqb-false e (length s) n) in

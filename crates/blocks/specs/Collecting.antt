@@ -53,14 +53,19 @@ abbrev pub noTiming : Head
 noTiming = record { left = 0; first = 0; end = 0; timed = false }
 
 -- the bytes of the line that begins at a place
-abbrev pub lineBytes : List ℕ → ℕ → List ℕ
-lineBytes s p = run (λ b. not (eqb b lf)) (drop p s)
+abbrev pub inLine : ℕ → Bool
+inLine b = not (eqb b lf)
 
--- where the lines begin that stand after the first line of a text and a header
+abbrev pub lineAt : List ℕ → ℕ → List ℕ
+lineAt s p = run inLine (drop p s)
+
+-- where the first line ends, and where the lines begin that stand after it and a header
+abbrev pub firstEnd : List ℕ → ℕ
+firstEnd s = 0 + length (lineAt s 0)
+
 unfoldable pub headerEnd : List ℕ → ℕ
 headerEnd s =
-    cond (eqb (0 + length (lineBytes s 0)) (length s)) (0 + length (lineBytes s 0))
-    (collectFrom noTiming (0 + length (lineBytes s 0) + 1) (linesFrom s (0 + length (lineBytes s 0) + 1)) .at)
+    cond (eqb (firstEnd s) (length s)) (firstEnd s) (collectFrom noTiming (firstEnd s + 1) (linesFrom s (firstEnd s + 1)) .at)
 
 -- the first place from one on that holds no LF
 abbrev pub pastEmpty : List ℕ → ℕ → ℕ
@@ -80,6 +85,6 @@ isEnd Why.Arrow = false
 
 -- what stands where collecting stopped: an empty line or the text's end, the text's end, or a line with an arrow
 abbrev pub WhyIs : List ℕ → Why → ℕ → Type 0
-WhyIs s Why.EmptyLine at = lineBytes s at ≡ []
+WhyIs s Why.EmptyLine at = lineAt s at ≡ []
 WhyIs s Why.End at = at ≡ length s
-WhyIs s Why.Arrow at = holdsArrow (lineBytes s at) ≡ true
+WhyIs s Why.Arrow at = holdsArrow (lineAt s at) ≡ true

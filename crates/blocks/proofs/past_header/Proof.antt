@@ -1,5 +1,5 @@
 -- `blocks::past_header` meets its contract.
-use Prim.Native.Nat.{_+_, _<_}
+use Prim.Native.Nat.{_<_}
 use mathlib.Core.Path.{_≡_, sym, _∙_}
 use mathlib.Core.Bool.{false}
 use native.Mathlib.Omega.{arith}
@@ -7,8 +7,7 @@ use lib.Dec.{eqb}
 use lib.ListN.{length}
 use borrow.Author.Tests.{eq-eqb, ne-eqb}
 use Rattle.laws.proofs.Runs.{run-length}
-use Rattle.blocks.specs.Collecting.{lineBytes, headerEnd}
-use Rattle.blocks.proofs.LineLaws.{inLine}
+use Rattle.blocks.specs.Collecting.{inLine, firstEnd, headerEnd}
 use borrow.Author.Needs.{needs}
 use Rattle.blocks.proofs.past_header.Statement.{statement}
 use Rattle.blocks.proofs.past_header.Tie as tie
@@ -20,8 +19,8 @@ returns : tie.Need-returns
 unfolding headerEnd
 returns c =
     let s = c .before .before .before .args .s .now in
-    let e : 0 + length (lineBytes s 0) ≡ length s = sym (c .before .past .ensures) ∙ c .if1 .taken in
-    c .before .past .ensures ∙ rw (eq-eqb (0 + length (lineBytes s 0)) (length s) e)
+    let e : firstEnd s ≡ length s = sym (c .before .past .ensures) ∙ c .if1 .taken in
+    c .before .past .ensures ∙ rw (eq-eqb (firstEnd s) (length s) e)
 
 -- a line follows the first
 inside : (c : tie.Else1) → c .before .past .result < length (c .before .before .before .args .s .now)
@@ -38,7 +37,7 @@ unfolding headerEnd
 returns-2 c =
     let found = c .before .before in
     let s = found .before .before .args .s .now in
-    let n : eqb (0 + length (lineBytes s 0)) (length s) ≡ false = rw (found .past .ensures) at (ne-eqb (found .past .result) (length s) (c .before .if1 .left)) in
+    let n : eqb (firstEnd s) (length s) ≡ false = rw (found .past .ensures) at (ne-eqb (found .past .result) (length s) (c .before .if1 .left)) in
     rw (n, ← (found .past .ensures), c .collect .ensures)
 
 pub past-header-spec : {M : Type 1} → statement M

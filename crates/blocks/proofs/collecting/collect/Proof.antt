@@ -11,8 +11,8 @@ use borrow.Author.Tests.{ltb-true, ne-eqb}
 use Rattle.laws.proofs.Tests.{and-left, and-right, and-false, or-true, or-false}
 use Rattle.laws.proofs.Runs.{run-next}
 use Rattle.format.specs.Blocks.{holdsArrow}
-use Rattle.blocks.specs.Collecting.{linesFrom, headAfter, collectFrom}
-use Rattle.blocks.proofs.LineLaws.{inLine, lineAt, line-stop, lines-end, arrow-next, collect-empty, collect-arrow, collect-line}
+use Rattle.blocks.specs.Collecting.{linesFrom, headAfter, collectFrom, inLine, lineAt}
+use Rattle.blocks.proofs.LineLaws.{line-stop, lines-end, arrow-next, collect-empty, collect-arrow, collect-line}
 use borrow.Author.Needs.{needs}
 use Rattle.blocks.proofs.collecting.collect.Statement.{statement}
 use Rattle.blocks.proofs.collecting.collect.Tie as tie
