@@ -31,6 +31,10 @@ refusalNumber (refused number vs) = number
 unfoldable pub andThen : Answer → Answer → Answer
 andThen answer next = ifAccepted answer next answer
 
+-- what reading a value answers: refusal 5 where a number is above its limit, else these values
+unfoldable pub limited : Bool → List ℕ → Answer
+limited over vs = cond over (refused 5 []) (accepted vs)
+
 -- what making a file answers, in an output room of this length: 1 (file to be made), 10 with the length needed, else its length
 unfoldable pub fileAnswer : List ℕ → ℕ → Answer
 fileAnswer file room =

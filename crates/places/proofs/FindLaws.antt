@@ -31,7 +31,7 @@ use Rattle.blocks.specs.Items.{meaningAt, BlockAt, NextAt, itemIs}
 use Rattle.blocks.proofs.LineLaws.{ends-append}
 use Rattle.blocks.proofs.ItemLaws.{part-back}
 use Rattle.blocks.proofs.WalkLaws.{fresh, items-next, moves}
-use Rattle.places.specs.declared.finding.Found.{Found}
+use Rattle.places.specs.declared.inner.finding.Found.{Found}
 use Rattle.places.specs.Places.{OwnLines}
 use Rattle.places.specs.Finding.{withItem, FoundIn}
 

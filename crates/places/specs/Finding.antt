@@ -16,9 +16,9 @@ use Rattle.values.specs.Tokens.{partOf}
 use Rattle.blocks.specs.declared.items.Item.{Item}
 use Rattle.blocks.specs.declared.items.Item.the-variants as Item
 use Rattle.places.specs.Places.{OwnLines}
-use Rattle.places.specs.declared.finding.Found.{Found}
-use Rattle.places.specs.declared.finding.Surveyed.{Surveyed}
-use Rattle.places.specs.declared.finding.Surveyed.the-variants as Surveyed
+use Rattle.places.specs.declared.inner.finding.Found.{Found}
+use Rattle.places.specs.declared.inner.finding.Surveyed.{Surveyed}
+use Rattle.places.specs.declared.inner.finding.Surveyed.the-variants as Surveyed
 
 -- is the part of a text at these places this name
 abbrev pub hasName : List ℕ → Span → List ℕ → Bool

@@ -5,11 +5,11 @@ use format::Replacing;
 use format::rows::NewCueRow;
 use format::settings::Span;
 use output::bytes;
-use places::finding;
-use places::finding::Found;
-use places::finding::Surveyed;
+use places::inner::finding;
+use places::inner::finding::Found;
+use places::inner::finding::Surveyed;
+use places::inner::testing;
 use places::lines;
-use places::testing;
 use writable::part;
 ghost use Prim.Native.Nat.{ℕ, _-_, _<_};
 ghost use mathlib.Core.Path.{_≡_};
@@ -43,7 +43,7 @@ fn put_file(
 {
     let place = rows::new_cue_name(row);
     let name = part(text, place.from, place.to);
-    let words = rows::cue_of_new(row);
+    let words = rows::inner::cue_of_new(row);
     let own = bytes(part(raw, 0, start), out, 0);
     let after = forms::cue_named(text, words, 0 < name.len(), name, out, own);
     bytes(part(raw, end, raw.len()), out, after)

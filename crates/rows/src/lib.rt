@@ -2,6 +2,7 @@
 // taken.
 mod choices;
 pub mod cues;
+pub mod inner;
 pub mod regions;
 pub mod styles;
 mod words;
@@ -10,7 +11,7 @@ use format::regions::Region;
 use format::rows::*;
 use format::settings::Span;
 ghost use mathlib.Core.Path.{_≡_};
-ghost use Rattle.format.specs.Rows.{cueWords, newCueWords, regionWords, styleWords, cueEntry, newCueEntry, newCueName, cueCodesNamed};
+ghost use Rattle.format.specs.Rows.{cueWords, newCueWords, regionWords, styleWords, newCueEntry, newCueName};
 
 // The row of a cue.
 pub fn cue_row(entry: CueEntry) -> CueRow
@@ -97,31 +98,6 @@ pub fn new_cue_row(entry: CueEntry, name: Span) -> NewCueRow
         row[CUE_ALIGN],
         name.from as u64,
         name.to as u64,
-    ]
-}
-
-// The row of a new cue as the row of a cue without a region.
-pub fn cue_of_new(row: NewCueRow) -> CueRow
-    ensures { λ r. ⌜ (cueEntry r ≡ newCueEntry row) × (cueCodesNamed r ≡ cueCodesNamed row) ⌝ }
-{
-    [
-        row[CUE_ID_FROM],
-        row[CUE_ID_TO],
-        row[CUE_START],
-        row[CUE_END],
-        row[CUE_TEXT_FROM],
-        row[CUE_TEXT_TO],
-        row[CUE_VERTICAL],
-        row[CUE_LINE],
-        row[CUE_LINE_NUMBER],
-        row[CUE_SNAP],
-        row[CUE_LINE_ALIGN],
-        row[CUE_POSITION],
-        row[CUE_POSITION_NUMBER],
-        row[CUE_POSITION_ALIGN],
-        row[CUE_SIZE],
-        row[CUE_ALIGN],
-        0,
     ]
 }
 

@@ -3,7 +3,7 @@ use Prim.Native.Nat.{ℕ, suc, _+_, _-_, _≤_, _<_, min}
 use mathlib.Core.Path.{_≡_, refl, sym, ap, _∙_}
 use mathlib.Core.Bool.{Bool, false}
 use mathlib.Core.List.{List, [], _∷_}
-use mathlib.Core.Option.{none}
+use mathlib.Core.Option.{Option, none, some}
 use native.Mathlib.Omega.{arith}
 use lib.Dec.{eqb}
 use lib.ListN.{length, getD, drop, length-drop}
@@ -11,6 +11,8 @@ use lib.Seq.{drop-cons, take-all}
 use borrow.Author.Tests.{eq-eqb, ne-eqb}
 use Rattle.format.specs.Bytes.{white, hyphen, greater}
 use Rattle.format.specs.Times.{Result, failed, got, onGot, expect, Time, timestamp, milliseconds, overHours}
+use Rattle.format.specs.Answers.{limited}
+use Rattle.format.specs.TimingLines as Format
 use Rattle.format.specs.TimingLines.{skipWhite, arrow, arrowAndEnd, timings, withSettings, timingOf, timingLine}
 use Rattle.laws.proofs.Tests.{by-test, or-true}
 use Rattle.laws.proofs.Runs.{RunAt}
@@ -18,7 +20,8 @@ use Rattle.values.specs.Times.{stampIs}
 use Rattle.values.specs.Tokens.{tokenFrom, partOf}
 use Rattle.values.proofs.StepLaws.{Steady, steady-then, steady-expect, steady-past, steady-timestamp, left-at, StampRead}
 use Rattle.timing.specs.declared.timing_line.ArrowEnd.the-variants as ArrowEnd
-use Rattle.timing.specs.TimingLines.{arrowIs, lineFrom, timingLineIs}
+use Rattle.timing.specs.TimingLines.{arrowIs, lineFrom, timingLineIs, timingLineAnswer, lineAnswer}
+use Rattle.timing.specs.declared.timing_line.TimingLine.{TimingLine}
 
 arrow-few : (x : List ℕ) → length x < 3 → arrow x ≡ failed
 unfolding arrow onGot expect
@@ -152,3 +155,10 @@ part-rest s at l =
     let b : min at (length s) ≡ at = omega arith in
     let n : length (drop at s) ≤ length s - at = omega (arith, length-drop at s) in
     rw (a, b, take-all (length s - at) (drop at s) n)
+
+-- a timing line that was read is answered by document 01's number and values
+pub timing-told :
+    (t : Option Format.Timing) (r : TimingLine) → r ≡ timingLineIs t → (r ≡ timingLineIs t) × (timingLineAnswer r ≡ lineAnswer t)
+unfolding limited
+timing-told none r e = (e, rw e refl)
+timing-told (some t) r e = (e, rw e (by-test (t .over) (λ y. rw y refl) (λ z. rw z refl)))

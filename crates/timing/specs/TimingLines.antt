@@ -1,9 +1,10 @@
 -- A timing line as the code holds it. `proofs/LineLaws.antt` proves that this is what `format` says.
 use Prim.Native.Nat.{ℕ, _-_}
 use mathlib.Core.Bool.{Bool, cond, _||_}
-use mathlib.Core.List.{List}
+use mathlib.Core.List.{List, [], _∷_}
 use mathlib.Core.Option.{Option, none, some}
 use lib.ListN.{length}
+use Rattle.format.specs.Answers.{Answer, accepted, refused, limited}
 use Rattle.format.specs.Times.{Result, failed, got}
 use Rattle.format.specs.CueSettings.{spanIs, cueSettings}
 use Rattle.format.specs.TimingLines as Format
@@ -34,3 +35,14 @@ abbrev pub timingLineIs : Option Format.Timing → TimingLine
 timingLineIs none = TimingLine.Bad
 timingLineIs (some t) =
     cond (t .over) TimingLine.Over (TimingLine.Good (record { start = t .start; end = t .end; settings = t .settings; region = spanIs (t .region) }))
+
+-- the number and the values of each case, start and end in milliseconds; none where there is no timing line
+abbrev pub timingLineAnswer : TimingLine → Option Answer
+timingLineAnswer TimingLine.Bad = none
+timingLineAnswer TimingLine.Over = some (refused 5 [])
+timingLineAnswer (TimingLine.Good t) = some (accepted (t .start ∷ t .end ∷ []))
+
+-- what reading a timing line answers
+abbrev pub lineAnswer : Option Format.Timing → Option Answer
+lineAnswer none = none
+lineAnswer (some t) = some (limited (t .over) (t .start ∷ t .end ∷ []))

@@ -3,13 +3,14 @@ use timing_line::TimingLine;
 ghost use mathlib.Core.Path.{_≡_};
 ghost use Rattle.format.specs.TimingLines.{timingLine};
 ghost use Rattle.values.specs.Tokens.{partOf};
-ghost use Rattle.timing.specs.TimingLines.{timingLineIs};
+ghost use Rattle.timing.specs.TimingLines.{timingLineIs, timingLineAnswer, lineAnswer};
 
 pub mod timing_line;
 
 // The text from `from` up to `to` as a timing line.
 pub fn line_of(text: &[u8], from: usize, to: usize) -> TimingLine
-    ensures { λ r. ⌜ r ≡ timingLineIs (timingLine (partOf (now (text .entry)) from to)) ⌝ }
+    ensures is { λ r. ⌜ r ≡ timingLineIs (timingLine (partOf (now (text .entry)) from to)) ⌝ }
+    ensures answer { λ r. ⌜ timingLineAnswer r ≡ lineAnswer (timingLine (partOf (now (text .entry)) from to)) ⌝ }
 {
     let end = values::least(to, text.len());
     let start = values::least(from, end);

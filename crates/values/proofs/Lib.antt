@@ -4,3 +4,4 @@ pub mod CutLaws
 pub mod StepLaws
 mod TimeLaws
 pub mod NameLaws
+pub mod AnswerLaws

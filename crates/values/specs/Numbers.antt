@@ -1,12 +1,14 @@
 -- Numbers as the code holds them.
 use Prim.Native.Nat.{ℕ, _+_, _*_, min}
 use mathlib.Core.Bool.{Bool, cond, not, _&&_, _||_}
-use mathlib.Core.List.{_++_}
+use mathlib.Core.List.{[], _∷_, _++_}
 use mathlib.Core.Option.{Option, none, some}
 use lib.Dec.{eqb, ltb}
 use lib.ListN.{take}
 use Rattle.format.specs.Bytes.{ascii}
 use Rattle.format.specs.Texts.{all}
+use Rattle.format.specs.Answers.{Answer, accepted, refused, limited}
+use Rattle.format.specs.Limits.{maxLine}
 use Rattle.format.specs.Numbers as Format
 use Rattle.values.specs.declared.numbers.Decimal.{Decimal}
 use Rattle.values.specs.declared.numbers.Decimal.the-variants as Decimal
@@ -52,3 +54,23 @@ lineNumberIs (some n) =
 abbrev pub lineCountIs : Option ℕ → LineCount
 lineCountIs none = LineCount.Bad
 lineCountIs (some n) = cond (ltb 999_999 n) LineCount.Over (LineCount.Good n)
+
+-- the number and the values of each case, sign (1 for minus) and millionths of a line number; none where there is no such number
+abbrev pub lineNumberAnswer : LineNumber → Option Answer
+lineNumberAnswer LineNumber.Bad = none
+lineNumberAnswer LineNumber.Over = some (refused 5 [])
+lineNumberAnswer (LineNumber.Good negative m) = some (accepted (cond negative 1 0 ∷ m ∷ []))
+
+abbrev pub lineCountAnswer : LineCount → Option Answer
+lineCountAnswer LineCount.Bad = none
+lineCountAnswer LineCount.Over = some (refused 5 [])
+lineCountAnswer (LineCount.Good n) = some (accepted (n ∷ []))
+
+-- what reading a line number and a count of lines answers
+abbrev pub numberAnswer : Option Format.LineNumber → Option Answer
+numberAnswer none = none
+numberAnswer (some n) = some (limited (Format.overLine n) (cond (Format.isNegative n) 1 0 ∷ Format.millionths (n .size) ∷ []))
+
+abbrev pub countAnswer : Option ℕ → Option Answer
+countAnswer none = none
+countAnswer (some n) = some (limited (ltb maxLine n) (n ∷ []))

@@ -10,11 +10,12 @@ ghost use mathlib.Core.Path.{_≡_};
 ghost use Prim.Native.Nat.{_≤_, min};
 ghost use lib.ListN.{length};
 ghost use Rattle.format.specs.Times.{timestamp};
-ghost use Rattle.values.specs.Times.{stampIs};
+ghost use Rattle.values.specs.Times.{stampIs, stampAnswer, timeAnswer};
 
 // The timestamp that a text begins with.
 pub fn read_time(text: &[u8]) -> times::Stamp
-    ensures { λ r. ⌜ r ≡ stampIs (length (now (text .entry))) (timestamp (now (text .entry))) ⌝ }
+    ensures is { λ r. ⌜ r ≡ stampIs (length (now (text .entry))) (timestamp (now (text .entry))) ⌝ }
+    ensures answer { λ r. ⌜ stampAnswer r ≡ timeAnswer (length (now (text .entry))) (timestamp (now (text .entry))) ⌝ }
 {
     times::read_timestamp(text, 0)
 }

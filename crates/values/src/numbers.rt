@@ -8,7 +8,7 @@ ghost use lib.ListN.{getD, take};
 ghost use mathlib.Core.List.{_++_};
 ghost use Rattle.format.specs.Bytes.{ascii};
 ghost use Rattle.format.specs.Numbers.{number, decimal, percentage, lineNumber, lineCount};
-ghost use Rattle.values.specs.Numbers.{cap, decimalIs, percentageIs, percentageOf, lineOf, lineNumberIs, lineCountIs};
+ghost use Rattle.values.specs.Numbers.{cap, decimalIs, percentageIs, percentageOf, lineOf, lineNumberIs, lineNumberAnswer, numberAnswer, lineCountIs, lineCountAnswer, countAnswer};
 
 // Above every limit: a number that is greater is held at this.
 const CAP: u64 = 1_000_000;
@@ -174,7 +174,8 @@ fn line_of(minus: bool, size: Decimal) -> LineNumber
 }
 
 pub fn read_line_number(s: &[u8]) -> LineNumber
-    ensures { λ r. ⌜ r ≡ lineNumberIs (lineNumber (now (s .entry))) ⌝ }
+    ensures is { λ r. ⌜ r ≡ lineNumberIs (lineNumber (now (s .entry))) ⌝ }
+    ensures answer { λ r. ⌜ lineNumberAnswer r ≡ numberAnswer (lineNumber (now (s .entry))) ⌝ }
 {
     if s.len() == 0 {
         return LineNumber::Bad;
@@ -193,7 +194,8 @@ pub enum LineCount {
 }
 
 pub fn read_line_count(s: &[u8]) -> LineCount
-    ensures { λ r. ⌜ r ≡ lineCountIs (lineCount (now (s .entry))) ⌝ }
+    ensures is { λ r. ⌜ r ≡ lineCountIs (lineCount (now (s .entry))) ⌝ }
+    ensures answer { λ r. ⌜ lineCountAnswer r ≡ countAnswer (lineCount (now (s .entry))) ⌝ }
 {
     if s.len() == 0 {
         return LineCount::Bad;

@@ -18,13 +18,13 @@ enum-known-n : tie.Need-enum-known-n
 enum-known-n c = search needs
 
 returns : tie.Need-returns
-returns c = rw (lines-is, sym (c .before .before .read-line-count .ensures) ∙ c .enum-told .given .1)
+returns c = rw (lines-is, sym (c .before .before .read-line-count .ensures .0) ∙ c .enum-told .given .1)
 
 returns-2 : tie.Need-returns-2
-returns-2 c = rw (lines-is, sym (c .before .before .read-line-count .ensures) ∙ c .enum-told2 .given .1)
+returns-2 c = rw (lines-is, sym (c .before .before .read-line-count .ensures .0) ∙ c .enum-told2 .given .1)
 
 returns-3 : tie.Need-returns-3
-returns-3 c = rw (lines-is, sym (c .before .before .before .read-line-count .ensures) ∙ c .before .n .given .1)
+returns-3 c = rw (lines-is, sym (c .before .before .before .read-line-count .ensures .0) ∙ c .before .n .given .1)
 
 pub lines-change-spec : {M : Type 1} → statement M
 lines-change-spec =

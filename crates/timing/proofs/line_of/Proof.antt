@@ -2,7 +2,9 @@
 use mathlib.Core.Path.{ap, _∙_}
 use Rattle.values.proofs.CutLaws.{Cut, cut-at}
 use Rattle.format.specs.TimingLines.{timingLine}
+use Rattle.values.specs.Tokens.{partOf}
 use Rattle.timing.specs.TimingLines.{timingLineIs}
+use Rattle.timing.proofs.LineLaws.{timing-told}
 use borrow.Author.Needs.{needs}
 use Rattle.timing.proofs.line_of.Statement.{statement}
 use Rattle.timing.proofs.line_of.Tie as tie
@@ -28,7 +30,11 @@ read-timing-line-requires : tie.Need-read-timing-line-requires
 read-timing-line-requires c κs = cut (c .before) .inside
 
 returns : tie.Need-returns
-returns c = c .read-timing-line .ensures ∙ ap (λ p. timingLineIs (timingLine p)) (cut (c .before .before) .part)
+returns c =
+    let found = c .before .before in
+    let args = found .before .before .before .args in
+    timing-told (timingLine (partOf (args .text .now) (args .from) (args .to))) (c .read-timing-line .result)
+    (c .read-timing-line .ensures ∙ ap (λ p. timingLineIs (timingLine p)) (cut found .part))
 
 pub line-of-spec : {M : Type 1} → statement M
 line-of-spec =

@@ -17,13 +17,13 @@ enum-known-read : tie.Need-enum-known-read
 enum-known-read c = search needs
 
 returns : tie.Need-returns
-returns c = rw (sym (c .before .before .line-of .ensures) ∙ c .enum-told .given .1)
+returns c = rw (sym (c .before .before .line-of .ensures .0) ∙ c .enum-told .given .1)
 
 returns-2 : tie.Need-returns-2
-returns-2 c = rw (sym (c .before .before .line-of .ensures) ∙ c .enum-told2 .given .1)
+returns-2 c = rw (sym (c .before .before .line-of .ensures .0) ∙ c .enum-told2 .given .1)
 
 returns-3 : tie.Need-returns-3
-returns-3 c = let read = c .before .before .before in rw (sym (read .before .before .line-of .ensures) ∙ read .read .given .1)
+returns-3 c = let read = c .before .before .before in rw (sym (read .before .before .line-of .ensures .0) ∙ read .read .given .1)
 
 pub timed-item-spec : {M : Type 1} → statement M
 timed-item-spec = tie.close (tie.spec line-of-requires enum-told enum-told-2 enum-known-read returns returns-2 returns-3)

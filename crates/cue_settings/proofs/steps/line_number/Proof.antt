@@ -18,13 +18,13 @@ enum-known-negative : tie.Need-enum-known-negative
 enum-known-negative c = search needs
 
 returns : tie.Need-returns
-returns c = rw (number-told, sym (c .before .before .read-line-number .ensures) ∙ c .enum-told .given .1)
+returns c = rw (number-told, sym (c .before .before .read-line-number .ensures .0) ∙ c .enum-told .given .1)
 
 returns-2 : tie.Need-returns-2
-returns-2 c = rw (number-told, sym (c .before .before .read-line-number .ensures) ∙ c .enum-told2 .given .1)
+returns-2 c = rw (number-told, sym (c .before .before .read-line-number .ensures .0) ∙ c .enum-told2 .given .1)
 
 returns-3 : tie.Need-returns-3
-returns-3 c = rw (number-told, sym (c .before .before .before .read-line-number .ensures) ∙ c .before .negative .given .1)
+returns-3 c = rw (number-told, sym (c .before .before .before .read-line-number .ensures .0) ∙ c .before .negative .given .1)
 
 pub line-number-spec : {M : Type 1} → statement M
 line-number-spec =

@@ -5,15 +5,19 @@ use mathlib.Core.Bool.{true, false}
 use native.Mathlib.Omega.{arith}
 use lib.ListN.{length, take, drop, length-drop}
 use lib.Seq.{take-all}
-use Rattle.format.specs.Numbers.{decimal}
+use Rattle.format.specs.Numbers.{decimal, lineNumber}
 use Rattle.values.specs.Numbers.{decimalIs, lineOf, lineNumberIs}
 use Rattle.values.proofs.NumberLaws.{line-is, line-none, line-minus, line-plain}
+use Rattle.values.proofs.AnswerLaws.{line-told}
+use Rattle.values.specs.declared.numbers.LineNumber.the-variants as LineNumber
 use borrow.Author.Needs.{needs}
 use Rattle.values.proofs.numbers.read_line_number.Statement.{statement}
 use Rattle.values.proofs.numbers.read_line_number.Tie as tie
 
 returns : tie.Need-returns
-returns c = sym (ap lineNumberIs (line-none (c .before .before .args .s .now) (c .if1 .taken)))
+returns c =
+    let s = c .before .before .args .s .now in
+    line-told (lineNumber s) LineNumber.Bad (sym (ap lineNumberIs (line-none s (c .if1 .taken))))
 
 shared-slice-read-if2 : tie.Need-shared-slice-read-if2
 shared-slice-read-if2 c = search needs
@@ -39,10 +43,11 @@ returns-2 c =
     let args = found .before .before .before .before .before .before .args in
     let s = args .s .now in
     let part : take (length s - 1) (drop 1 s) ≡ drop 1 s = take-all (length s - 1) (drop 1 s) (omega (arith, length-drop 1 s)) in
-    c .line-of .ensures
+    line-told (lineNumber s) (c .line-of .result)
+    (c .line-of .ensures
     ∙ ap (lineOf true) (found .read-decimal .ensures ∙ ap (λ x. decimalIs (decimal x)) part)
     ∙ line-is true (decimal (drop 1 s))
-    ∙ sym (ap lineNumberIs (line-minus s (omega arith) (found .before .before .if2 .taken)))
+    ∙ sym (ap lineNumberIs (line-minus s (omega arith) (found .before .before .if2 .taken))))
 
 read-decimal-requires-2 : tie.Need-read-decimal-requires-2
 read-decimal-requires-2 c κs = search needs
@@ -54,10 +59,11 @@ returns-3 : tie.Need-returns-3
 returns-3 c =
     let found = c .before in
     let s = found .before .before .before .before .before .args .s .now in
-    c .line-of2 .ensures
+    line-told (lineNumber s) (c .line-of2 .result)
+    (c .line-of2 .ensures
     ∙ ap (lineOf false) (found .read-decimal2 .ensures)
     ∙ line-is false (decimal s)
-    ∙ sym (ap lineNumberIs (line-plain s (omega arith) (found .before .if2 .left)))
+    ∙ sym (ap lineNumberIs (line-plain s (omega arith) (found .before .if2 .left))))
 
 pub read-line-number-spec : {M : Type 1} → statement M
 read-line-number-spec =

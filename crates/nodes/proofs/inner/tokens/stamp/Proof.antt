@@ -17,19 +17,19 @@ enum-known-ms : tie.Need-enum-known-ms
 enum-known-ms c = search needs
 
 returns : tie.Need-returns
-returns c = stamp-bad (c .before .before .before .before .args .s .now) (c .before .before .read-time .result) (c .before .before .read-time .ensures) (c .enum-told .given .1)
+returns c = stamp-bad (c .before .before .before .before .args .s .now) (c .before .before .read-time .result) (c .before .before .read-time .ensures .0) (c .enum-told .given .1)
 
 returns-2 : tie.Need-returns-2
-returns-2 c = stamp-over-more (c .before .before .before .before .before .before .args .s .now) (c .before .before .before .before .read-time .result) (c .before .before .before .before .read-time .ensures) (c .before .before .next .given .0 .0) (c .before .before .next .given .1) (c .if1 .taken)
+returns-2 c = stamp-over-more (c .before .before .before .before .before .before .args .s .now) (c .before .before .before .before .read-time .result) (c .before .before .before .before .read-time .ensures .0) (c .before .before .next .given .0 .0) (c .before .before .next .given .1) (c .if1 .taken)
 
 returns-3 : tie.Need-returns-3
-returns-3 c = stamp-over (c .before .before .before .before .before .before .args .s .now) (c .before .before .before .before .read-time .result) (c .before .before .before .before .read-time .ensures) (c .before .before .next .given .0 .0) (c .before .before .next .given .1) (c .if1 .left)
+returns-3 c = stamp-over (c .before .before .before .before .before .before .args .s .now) (c .before .before .before .before .read-time .result) (c .before .before .before .before .read-time .ensures .0) (c .before .before .next .given .0 .0) (c .before .before .next .given .1) (c .if1 .left)
 
 returns-4 : tie.Need-returns-4
-returns-4 c = stamp-more (c .before .before .before .before .before .before .args .s .now) (c .before .before .before .before .read-time .result) (c .before .before .before .before .read-time .ensures) (c .before .before .ms .given .0 .1 .0) (c .before .before .ms .given .0 .0) (c .before .before .ms .given .1) (c .if2 .taken)
+returns-4 c = stamp-more (c .before .before .before .before .before .before .args .s .now) (c .before .before .before .before .read-time .result) (c .before .before .before .before .read-time .ensures .0) (c .before .before .ms .given .0 .1 .0) (c .before .before .ms .given .0 .0) (c .before .before .ms .given .1) (c .if2 .taken)
 
 returns-5 : tie.Need-returns-5
-returns-5 c = stamp-whole (c .before .before .before .before .before .before .args .s .now) (c .before .before .before .before .read-time .result) (c .before .before .before .before .read-time .ensures) (c .before .before .ms .given .0 .1 .0) (c .before .before .ms .given .0 .0) (c .before .before .ms .given .1) (c .if2 .left)
+returns-5 c = stamp-whole (c .before .before .before .before .before .before .args .s .now) (c .before .before .before .before .read-time .result) (c .before .before .before .before .read-time .ensures .0) (c .before .before .ms .given .0 .1 .0) (c .before .before .ms .given .0 .0) (c .before .before .ms .given .1) (c .if2 .left)
 
 pub stamp-spec : {M : Type 1} → statement M
 stamp-spec =

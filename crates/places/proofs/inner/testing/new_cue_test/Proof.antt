@@ -1,4 +1,4 @@
--- `places::testing::new_cue_test` meets its contract.
+-- `places::inner::testing::new_cue_test` meets its contract.
 use Prim.Native.Nat.{ℕ}
 use native.Mathlib.Omega.{arith}
 use mathlib.Core.Path.{_≡_, refl, ap, _∙_}
@@ -13,8 +13,8 @@ use Rattle.values.proofs.NumberLaws.{empty-is, is-empty-not}
 use Rattle.writable.proofs.FaultLaws.{failed, passed}
 use Rattle.places.proofs.TestLaws.{fields-fail, name-decides}
 use borrow.Author.Needs.{needs}
-use Rattle.places.proofs.testing.new_cue_test.Statement.{statement}
-use Rattle.places.proofs.testing.new_cue_test.Tie as tie
+use Rattle.places.proofs.inner.testing.new_cue_test.Statement.{statement}
+use Rattle.places.proofs.inner.testing.new_cue_test.Tie as tie
 
 new-cue-name-requires : tie.Need-new-cue-name-requires
 new-cue-name-requires c κs = search needs

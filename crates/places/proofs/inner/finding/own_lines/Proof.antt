@@ -1,7 +1,7 @@
--- `places::finding::own_lines` meets its contract.
+-- `places::inner::finding::own_lines` meets its contract.
 use borrow.Author.Tests.{eq-eqb, ne-eqb}
-use Rattle.places.proofs.finding.own_lines.Statement.{statement}
-use Rattle.places.proofs.finding.own_lines.Tie as tie
+use Rattle.places.proofs.inner.finding.own_lines.Statement.{statement}
+use Rattle.places.proofs.inner.finding.own_lines.Tie as tie
 
 returns : tie.Need-returns
 returns c = let a = c .before .args in rw (eq-eqb (a .found .cues) (a .number) (c .if1 .taken))

@@ -1,7 +1,7 @@
--- `places::finding::with_item` meets its contract.
+-- `places::inner::finding::with_item` meets its contract.
 use borrow.Author.Needs.{needs}
-use Rattle.places.proofs.finding.with_item.Statement.{statement}
-use Rattle.places.proofs.finding.with_item.Tie as tie
+use Rattle.places.proofs.inner.finding.with_item.Statement.{statement}
+use Rattle.places.proofs.inner.finding.with_item.Tie as tie
 
 enum-told : tie.Need-enum-told
 enum-told c = search needs

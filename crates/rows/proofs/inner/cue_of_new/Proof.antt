@@ -1,9 +1,9 @@
--- `rows::cue_of_new` meets its contract.
+-- `rows::inner::cue_of_new` meets its contract.
 use mathlib.Core.Path.{refl}
 use Rattle.format.specs.Rows.{cueCodesNamed}
 use borrow.Author.Needs.{needs}
-use Rattle.rows.proofs.cue_of_new.Statement.{statement}
-use Rattle.rows.proofs.cue_of_new.Tie as tie
+use Rattle.rows.proofs.inner.cue_of_new.Statement.{statement}
+use Rattle.rows.proofs.inner.cue_of_new.Tie as tie
 
 array-read-t5 : tie.Need-array-read-t5
 array-read-t5 c = search needs

@@ -17,7 +17,7 @@ pub fn new_cue_test(text: &[u8], row: NewCueRow, named: bool) -> usize
     if !part_plain(text, place.from, place.to) {
         return 1;
     }
-    let fields = writable::cue_fields_test(text, rows::cue_of_new(row));
+    let fields = writable::cue_fields_test(text, rows::inner::cue_of_new(row));
     if fields != 0 {
         return fields;
     }

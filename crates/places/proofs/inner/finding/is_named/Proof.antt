@@ -1,7 +1,7 @@
--- `places::finding::is_named` meets its contract.
+-- `places::inner::finding::is_named` meets its contract.
 use borrow.Author.Needs.{needs}
-use Rattle.places.proofs.finding.is_named.Statement.{statement}
-use Rattle.places.proofs.finding.is_named.Tie as tie
+use Rattle.places.proofs.inner.finding.is_named.Statement.{statement}
+use Rattle.places.proofs.inner.finding.is_named.Tie as tie
 
 least-requires : tie.Need-least-requires
 least-requires c κs = search needs

@@ -1,4 +1,4 @@
--- `places::finding::survey` meets its contract: what has been found, with what the blocks from `at` on give, is what the text has.
+-- `places::inner::finding::survey` meets its contract: what has been found, with what the blocks from `at` on give, is what the text has.
 use Prim.Native.Nat.{ℕ, _-_}
 use mathlib.Core.Path.{_≡_, sym, ap, _∙_}
 use mathlib.Core.Bool.{true}
@@ -15,8 +15,8 @@ use Rattle.blocks.specs.Items.{meaningAt, NextAt, isOver}
 use Rattle.blocks.proofs.WalkLaws.{fresh, after-header, next-none, next-found, last, moves, over-is}
 use Rattle.places.proofs.FindLaws.{Walking, walk-start, walk-end, walk-over, walk-next}
 use borrow.Author.Needs.{needs}
-use Rattle.places.proofs.finding.survey.Statement.{statement}
-use Rattle.places.proofs.finding.survey.Tie as tie
+use Rattle.places.proofs.inner.finding.survey.Statement.{statement}
+use Rattle.places.proofs.inner.finding.survey.Tie as tie
 
 abbrev Inv-loop : tie.InvT-loop
 Inv-loop s number name at₀ found₀ at found = Walking s number name at found
