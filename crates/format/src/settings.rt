@@ -124,7 +124,7 @@ impl Settings {
         }
     }
 
-    pub fn with_vertical(self, vertical: Direction) -> Settings
+    pub(crate) fn with_vertical(self, vertical: Direction) -> Settings
         ensures { λ r. ⌜ r ≡ settingsAfter (Cases.Vertical vertical) self ⌝ }
     {
         let line = self.line;
@@ -139,7 +139,7 @@ impl Settings {
         }
     }
 
-    pub fn with_line(self, line: LinePlace) -> Settings
+    pub(crate) fn with_line(self, line: LinePlace) -> Settings
         ensures { λ r. ⌜ r ≡ settingsAfter (Cases.Line line) self ⌝ }
     {
         let vertical = self.vertical;
@@ -154,7 +154,7 @@ impl Settings {
         }
     }
 
-    pub fn with_position(self, position: PositionPlace) -> Settings
+    pub(crate) fn with_position(self, position: PositionPlace) -> Settings
         ensures { λ r. ⌜ r ≡ settingsAfter (Cases.Position position) self ⌝ }
     {
         let vertical = self.vertical;
@@ -169,7 +169,7 @@ impl Settings {
         }
     }
 
-    pub fn with_size(self, size: u64) -> Settings
+    pub(crate) fn with_size(self, size: u64) -> Settings
         ensures { λ r. ⌜ r ≡ settingsAfter (Cases.Size size) self ⌝ }
     {
         let vertical = self.vertical;
@@ -185,7 +185,7 @@ impl Settings {
         }
     }
 
-    pub fn with_align(self, align: Align) -> Settings
+    pub(crate) fn with_align(self, align: Align) -> Settings
         ensures { λ r. ⌜ r ≡ settingsAfter (Cases.Align align) self ⌝ }
     {
         let vertical = self.vertical;

@@ -91,7 +91,7 @@ fn show_text(
 
 // Prints the lines of a raw file. Its plain text goes to `text`, and the lists to the tables. Hands back the number of the first refusal of
 // converting and reading, for which nothing is printed, and 0 where there is none.
-pub fn show(
+pub(crate) fn show(
     raw: &[u8],
     text: &mut [u8],
     cues: &mut [CueRow],

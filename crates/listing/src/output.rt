@@ -19,7 +19,7 @@ pub fn number(n: u64) {
 }
 
 // The shortest decimal of a number of millionths.
-pub fn decimal(millionths: u64) {
+pub(crate) fn decimal(millionths: u64) {
     digits(millionths / ONE);
     let mut rest = millionths % ONE;
     let mut unit = ONE / 10;
@@ -54,7 +54,7 @@ fn letter_of(b: u8) -> u8 {
 }
 
 // The bytes as a field: backslash, tab and LF are two characters each, so that it is within its line.
-pub fn field(bytes: &[u8]) {
+pub(crate) fn field(bytes: &[u8]) {
     print(b"\t");
     let mut start = 0;
     let mut i = 0;

@@ -55,7 +55,7 @@ fn outline(file: i32) {
 }
 
 // Nothing where the path's first letter begins the name of no folder: lists, rewritten, mended, outlined.
-pub fn run(path: &[u8], file: i32) {
+pub(crate) fn run(path: &[u8], file: i32) {
     if path.len() == 0 {
         return;
     }

@@ -79,7 +79,7 @@ fn report(raw: &[u8]) {
     print_place(raw);
 }
 
-pub fn run(line: &[u8]) {
+pub(crate) fn run(line: &[u8]) {
     let mut raw = [0u8; 64];
     let n = decode(line, &mut raw);
     report(&raw[..n]);

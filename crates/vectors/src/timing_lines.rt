@@ -216,7 +216,7 @@ fn run_kind(kind: u8, text: &[u8]) {
     }
 }
 
-pub fn run(line: &[u8]) {
+pub(crate) fn run(line: &[u8]) {
     if line.len() < 2 {
         return;
     }
