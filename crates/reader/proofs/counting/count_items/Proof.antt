@@ -147,7 +147,7 @@ loop-again c =
     let most = with-most (itemIs (item l)) (at l .loop .n) in
     let far = moves (s l) (at l .loop .at) (from l) (stop l) (found l) in
     let more = counted w in (
-      found l .block .inside,
+      omega (arith, found l .block .inside),
       rw more (omega (arith, far, most .0)),
       rw more (omega (arith, far, most .1)),
       rw more (omega (arith, far, most .2)),
