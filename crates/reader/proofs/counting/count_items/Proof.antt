@@ -146,11 +146,12 @@ loop-again c =
     let l = w .before .before .before .before .before .before in
     let most = with-most (itemIs (item l)) (at l .loop .n) in
     let far = moves (s l) (at l .loop .at) (from l) (stop l) (found l) in
+    let inside = found l .block .inside in
     let more = counted w in (
-      omega (arith, found l .block .inside),
-      rw more (omega (arith, far, most .0)),
-      rw more (omega (arith, far, most .1)),
-      rw more (omega (arith, far, most .2)),
+      omega (arith, inside),
+      rw more (omega (arith, far, inside, most .0)),
+      rw more (omega (arith, far, inside, most .1)),
+      rw more (omega (arith, far, inside, most .2)),
       rest w,
     )
 
