@@ -11,6 +11,7 @@ pub mod Blocks
 pub mod Lists
 pub mod Filling
 pub mod Runs
+pub mod Parted
 pub mod Numbers
 pub mod Tokens
 pub mod Changes

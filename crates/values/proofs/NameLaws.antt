@@ -1,70 +1,31 @@
--- The lines of a table of names, from a place on, and the choice that a name's index makes.
-use Prim.Native.Nat.{ℕ, suc, _+_, _-_, _≤_, _<_}
+-- The index of a name among the lines of a table, from a place on, and the choice that it makes.
+use Prim.Native.Nat.{ℕ, _+_, _-_, _≤_, _<_}
 use mathlib.Core.Path.{_≡_, refl, sym, ap, _∙_}
-use mathlib.Core.Bool.{Bool, cond, not}
+use mathlib.Core.Bool.{Bool, cond}
 use mathlib.Core.List.{List, [], _∷_}
 use native.Mathlib.Numerals.{add-one}
 use native.Mathlib.Omega.{arith}
-use lib.Dec.{eqb, ltb}
-use lib.ListN.{length, getD, take, drop, length-drop, List·getD-eq-default}
-use lib.Seq.{drop-drop}
-use borrow.Author.Tests.{lt-ltb, le-ltb, ltb-true, ltb-false}
+use lib.ListN.{length, getD, take, drop, List·getD-eq-default}
 use Rattle.format.specs.Bytes.{lf}
-use Rattle.format.specs.Texts.{run, same}
-use Rattle.format.specs.Lines.{splitAt, split, before, onFirst}
+use Rattle.format.specs.Texts.{same}
+use Rattle.format.specs.Lines.{split}
 use Rattle.laws.proofs.Tests.{by-test}
-use Rattle.laws.proofs.Runs.{RunAt}
+use Rattle.laws.proofs.Parted.{partsFrom, PartHere, parts-start, parts-end}
 use Rattle.values.specs.Names.{indexIn}
-
--- none from after the end on
-abbrev pub linesFrom : List ℕ → ℕ → List (List ℕ)
-linesFrom s at = cond (ltb (length s) at) [] (split (drop at s))
-
-abbrev pub firstLine : List ℕ → List ℕ
-firstLine s = run (λ b. not (eqb b lf)) s
-
-from-cons : (b : ℕ) (s : List ℕ) (k : ℕ) → linesFrom (b ∷ s) (suc k + 1) ≡ linesFrom s (k + 1)
-from-cons b s k =
-    by-test (ltb (length s) (k + 1))
-    (λ y. rw (y, lt-ltb (length (b ∷ s)) (suc k + 1) (omega (arith, ltb-true (length s) (k + 1) y))))
-    (λ z. rw (z, le-ltb (length (b ∷ s)) (suc k + 1) (omega (arith, ltb-false (length s) (k + 1) z)), add-one (suc k), add-one k))
-
-first-is : (s : List ℕ) → split s ≡ firstLine s ∷ linesFrom s (length (firstLine s) + 1)
-unfolding splitAt before onFirst run
-first-is [] = refl
-first-is (b ∷ s) =
-    by-test (eqb b lf)
-    (λ y. rw (y, le-ltb (length (b ∷ s)) 1 (omega arith)) refl)
-    (λ n. rw (n, first-is s) (ap (λ ls. (b ∷ firstLine s) ∷ ls) (sym (from-cons b s (length (firstLine s))))))
-
--- the lines of what stands from a place on
-from-drop : (s : List ℕ) (at k : ℕ) → at ≤ length s → linesFrom (drop at s) k ≡ linesFrom s (at + k)
-from-drop s at k l =
-    let e : length (drop at s) ≡ length s - at = length-drop at s in
-    by-test (ltb (length (drop at s)) k)
-    (λ y. rw (y, lt-ltb (length s) (at + k) (omega (arith, e, ltb-true (length (drop at s)) k y))))
-    (λ z. rw (z, le-ltb (length s) (at + k) (omega (arith, e, ltb-false (length (drop at s)) k z)), drop-drop k at s))
 
 -- a name's index, by whether it is the line that stands here
 pub index-here :
     (s x : List ℕ) (at end : ℕ) (t : Bool)
-    → at ≤ length s
-    → end ≡ at + length (firstLine (drop at s))
-    → RunAt (λ b. not (eqb b lf)) s at end
+    → PartHere lf s at end
     → same x (take (end - at) (drop at s)) ≡ t
-    → indexIn (linesFrom s at) x ≡ cond t 0 (indexIn (linesFrom s (end + 1)) x + 1)
-index-here s x at end t l e r h =
-    let k = length (firstLine (drop at s)) in
-    let n : at + (k + 1) ≡ end + 1 = omega arith in
-    rw (le-ltb (length s) at l, first-is (drop at s), from-drop s at (k + 1) l, n, r .bytes, h)
+    → indexIn (partsFrom lf s at) x ≡ cond t 0 (indexIn (partsFrom lf s (end + 1)) x + 1)
+index-here s x at end t line h = ap (λ ls. indexIn ls x) (line .parts) ∙ rw h refl
 
-pub index-start : (s x : List ℕ) → 0 + indexIn (linesFrom s 0) x ≡ indexIn (split s) x
-index-start s x =
-    let e : linesFrom s 0 ≡ split s = rw (le-ltb (length s) 0 (omega arith)) in
-    omega (arith, ap (λ ls. indexIn ls x) e)
+pub index-start : (s x : List ℕ) → 0 + indexIn (partsFrom lf s 0) x ≡ indexIn (split s) x
+index-start s x = omega (arith, ap (λ ls. indexIn ls x) (parts-start lf s))
 
-pub index-end : (s x : List ℕ) (at : ℕ) → length s < at → indexIn (linesFrom s at) x ≡ 0
-index-end s x at l = rw (lt-ltb (length s) at l)
+pub index-end : (s x : List ℕ) (at : ℕ) → length s < at → indexIn (partsFrom lf s at) x ≡ 0
+index-end s x at l = ap (λ ls. indexIn ls x) (parts-end lf s at l)
 
 -- the choice that a chain of tests makes, by a name's index
 abbrev pub chosen : {A : Type 0} → List (List ℕ) → List A → A → List ℕ → A

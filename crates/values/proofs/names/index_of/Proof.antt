@@ -7,17 +7,15 @@ use lib.ListN.{length}
 use borrow.Author.Needs.{needs}
 use Rattle.format.specs.Lines.{split}
 use Rattle.format.specs.Bytes.{lf}
-use Rattle.laws.proofs.Runs.{RunAt, run-at}
-use Rattle.values.specs.Runs.{passes}
-use Rattle.values.specs.declared.bytes.ByteKind.the-variants as ByteKind
+use Rattle.laws.proofs.Parted.{partsFrom, PartHere, part-here}
 use Rattle.values.specs.Names.{indexIn}
-use Rattle.values.proofs.NameLaws.{linesFrom, index-here, index-start, index-end}
+use Rattle.values.proofs.NameLaws.{index-here, index-start, index-end}
 use Rattle.values.proofs.names.index_of.Statement.{statement}
 use Rattle.values.proofs.names.index_of.Tie as tie
 
 abbrev Inv-loop : tie.InvT-loop
 Inv-loop table name at₀ index₀ at index =
-    (at ≤ length table + 1) × (index ≤ at) × (index + indexIn (linesFrom table at) name ≡ indexIn (split table) name)
+    (at ≤ length table + 1) × (index ≤ at) × (index + indexIn (partsFrom lf table at) name ≡ indexIn (split table) name)
 
 abbrev μ-loop : tie.MeasureT-loop
 μ-loop table name at₀ index₀ at index = length table + 1 - at
@@ -25,9 +23,9 @@ abbrev μ-loop : tie.MeasureT-loop
 -- the line that stands at `at`
 line-at :
     (c : tie.After-past Inv-loop μ-loop)
-    → let s = c .before .before .before .before .before .args .table .now in RunAt (passes (ByteKind.Until lf)) s (c .before .before .loop .at) (c .past .result)
+    → let s = c .before .before .before .before .before .args .table .now in PartHere lf s (c .before .before .loop .at) (c .past .result)
 line-at c =
-    run-at (passes (ByteKind.Until lf)) (c .before .before .before .before .before .args .table .now) (c .before .before .loop .at) (c .past .result) (omega arith)
+    part-here lf (c .before .before .before .before .before .args .table .now) (c .before .before .loop .at) (c .past .result) (omega arith)
     (c .past .ensures)
 
 loop-holds : tie.Need-loop-holds Inv-loop μ-loop
@@ -54,13 +52,13 @@ same-bytes-requires c κs = search needs
 here :
     (c : tie.After-same-bytes Inv-loop μ-loop)
     → let args = c .before .before .before .before .before .before .before .args in
-    indexIn (linesFrom (args .table .now) (c .before .before .before .before .loop .at)) (args .name .now)
-    ≡ cond (c .same-bytes .result) 0 (indexIn (linesFrom (args .table .now) (c .before .before .past .result + 1)) (args .name .now) + 1)
+    indexIn (partsFrom lf (args .table .now) (c .before .before .before .before .loop .at)) (args .name .now)
+    ≡ cond (c .same-bytes .result) 0 (indexIn (partsFrom lf (args .table .now) (c .before .before .past .result + 1)) (args .name .now) + 1)
 here c =
     let line = c .before .before in
     let loop = line .before .before in
     let args = loop .before .before .before .args in
-    index-here (args .table .now) (args .name .now) (loop .loop .at) (line .past .result) (c .same-bytes .result) (omega arith) (line .past .ensures)
+    index-here (args .table .now) (args .name .now) (loop .loop .at) (line .past .result) (c .same-bytes .result)
     (line-at line) (sym (c .same-bytes .ensures))
 
 returns : tie.Need-returns Inv-loop μ-loop

@@ -1,0 +1,69 @@
+-- The parts of a text between bytes c, as a loop goes over them: the part that stands at a place, and those after it.
+use Prim.Native.Nat.{ℕ, suc, _+_, _-_, _≤_, _<_}
+use mathlib.Core.Path.{_≡_, refl, sym, ap}
+use mathlib.Core.Bool.{cond, not}
+use mathlib.Core.List.{List, [], _∷_}
+use native.Mathlib.Numerals.{add-one}
+use native.Mathlib.Omega.{arith}
+use lib.Dec.{eqb, ltb}
+use lib.ListN.{length, take, drop, length-drop}
+use lib.Seq.{drop-drop}
+use borrow.Author.Tests.{lt-ltb, le-ltb, ltb-true, ltb-false}
+use Rattle.format.specs.Texts.{run}
+use Rattle.format.specs.Lines.{splitAt, before, onFirst}
+use Rattle.laws.proofs.Tests.{by-test}
+use Rattle.laws.proofs.Runs.{run-at}
+
+-- the parts of what stands from a place on; none from after the end on
+abbrev pub partsFrom : ℕ → List ℕ → ℕ → List (List ℕ)
+partsFrom c s at = cond (ltb (length s) at) [] (splitAt c (drop at s))
+
+abbrev pub firstPart : ℕ → List ℕ → List ℕ
+firstPart c s = run (λ b. not (eqb b c)) s
+
+-- the part that stands from one place up to another
+pub record PartHere (c : ℕ) (s : List ℕ) (at end : ℕ) : Type 0 where
+  pub from : at ≤ end
+  pub inside : end ≤ length s
+  pub parts : partsFrom c s at ≡ take (end - at) (drop at s) ∷ partsFrom c s (end + 1)
+
+module _ (c : ℕ) where
+  from-cons : (b : ℕ) (s : List ℕ) (k : ℕ) → partsFrom c (b ∷ s) (suc k + 1) ≡ partsFrom c s (k + 1)
+  from-cons b s k =
+      by-test (ltb (length s) (k + 1))
+      (λ y. rw (y, lt-ltb (length (b ∷ s)) (suc k + 1) (omega (arith, ltb-true (length s) (k + 1) y))))
+      (λ z. rw (z, le-ltb (length (b ∷ s)) (suc k + 1) (omega (arith, ltb-false (length s) (k + 1) z)), add-one (suc k), add-one k))
+
+  -- the first part, and those after the byte that ends it
+  first-is : (s : List ℕ) → splitAt c s ≡ firstPart c s ∷ partsFrom c s (length (firstPart c s) + 1)
+  unfolding splitAt before onFirst run
+  first-is [] = refl
+  first-is (b ∷ s) =
+      by-test (eqb b c)
+      (λ y. rw (y, le-ltb (length (b ∷ s)) 1 (omega arith)) refl)
+      (λ n. rw (n, first-is s) (ap (λ ls. (b ∷ firstPart c s) ∷ ls) (sym (from-cons b s (length (firstPart c s))))))
+
+  from-drop : (s : List ℕ) (at k : ℕ) → at ≤ length s → partsFrom c (drop at s) k ≡ partsFrom c s (at + k)
+  from-drop s at k l =
+      let e : length (drop at s) ≡ length s - at = length-drop at s in
+      by-test (ltb (length (drop at s)) k)
+      (λ y. rw (y, lt-ltb (length s) (at + k) (omega (arith, e, ltb-true (length (drop at s)) k y))))
+      (λ z. rw (z, le-ltb (length s) (at + k) (omega (arith, e, ltb-false (length (drop at s)) k z)), drop-drop k at s))
+
+  -- from a place inside the text on: the part up to the next c, and those after it
+  pub part-here : (s : List ℕ) (at end : ℕ) → at ≤ length s → end ≡ at + length (firstPart c (drop at s)) → PartHere c s at end
+  part-here s at end l e =
+      let k = length (firstPart c (drop at s)) in
+      let n : at + (k + 1) ≡ end + 1 = omega arith in
+      let r = run-at (λ b. not (eqb b c)) s at end l e in
+      record {
+        from = r .from;
+        inside = r .inside;
+        parts = rw (le-ltb (length s) at l, first-is (drop at s), from-drop s at (k + 1) l, n, r .bytes) refl;
+      }
+
+  pub parts-start : (s : List ℕ) → partsFrom c s 0 ≡ splitAt c s
+  parts-start s = rw (le-ltb (length s) 0 (omega arith))
+
+  pub parts-end : (s : List ℕ) (at : ℕ) → length s < at → partsFrom c s at ≡ []
+  parts-end s at l = rw (lt-ltb (length s) at l)
