@@ -1,7 +1,7 @@
 -- Laws of escaped texts, over any table of escapes: what a step gives, and what is left after it.
 use Prim.Native.Nat.{ℕ, suc, _+_, _≤_, _<_}
 use mathlib.Core.Path.{Path, _≡_, refl, sym, ap, _∙_}
-use mathlib.Core.Bool.{true, false}
+use mathlib.Core.Bool.{Bool, true, false}
 use mathlib.Core.List.{List, [], _∷_}
 use mathlib.Core.Option.{Option, none, some, Option·map, Option·elim}
 use native.Mathlib.Numerals.{add-one}
@@ -172,3 +172,24 @@ length-good n (some x) e = refl
 pub length-bad : (o : Option (List ℕ)) → lengthIs o ≡ FieldLength.Bad → textOf o ≡ []
 length-bad none e = refl
 length-bad (some x) e = let z : _≡_ {A = ℕ} 0 1 = cc in absurd (omega arith)
+
+-- a text is no longer than the field that stands for it
+module _ (table : ℕ → Option ℕ) where
+  letter-length : (t : Option ℕ) (x : List ℕ) → length (textOf (Option·elim t none (λ c. some (c ∷ x)))) ≤ suc (length x)
+  unfolding Option·elim
+  letter-length none x = omega arith
+  letter-length (some c) x = omega arith
+
+  giving-length : (escaped : Bool) (b : ℕ) (o : Option (List ℕ)) → length (textOf (giving table escaped b o)) ≤ suc (length (textOf o))
+  unfolding giving Option·elim
+  giving-length escaped b none = omega arith
+  giving-length true b (some x) = letter-length (table b) x
+  giving-length false b (some x) = by-test (eqb b backslash) (λ y. rw y (omega arith)) (λ n. rw n (omega arith))
+
+  pub text-length : (escaped : Bool) (f : List ℕ) → length (textOf (unescapedFrom table escaped f)) ≤ length f
+  unfolding unescapedFrom
+  text-length true [] = omega arith
+  text-length false [] = omega arith
+  text-length escaped (b ∷ f) =
+      let rest = unescapedFrom table (opens escaped b) f in
+      omega (arith, giving-length escaped b rest, text-length (opens escaped b) f)

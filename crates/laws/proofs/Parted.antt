@@ -1,12 +1,12 @@
 -- The parts of a text between bytes c, as a loop goes over them: the part that stands at a place, and those after it.
-use Prim.Native.Nat.{ℕ, suc, _+_, _-_, _≤_, _<_}
+use Prim.Native.Nat.{ℕ, zero, suc, _+_, _-_, _≤_, _<_}
 use mathlib.Core.Path.{_≡_, refl, sym, ap}
 use mathlib.Core.Bool.{cond, not}
 use mathlib.Core.List.{List, [], _∷_}
 use native.Mathlib.Numerals.{add-one}
 use native.Mathlib.Omega.{arith}
 use lib.Dec.{eqb, ltb}
-use lib.ListN.{length, take, drop, length-drop}
+use lib.ListN.{length, getD, take, drop, length-drop}
 use lib.Seq.{drop-drop}
 use borrow.Author.Tests.{lt-ltb, le-ltb, ltb-true, ltb-false}
 use Rattle.format.specs.Texts.{run}
@@ -67,3 +67,36 @@ module _ (c : ℕ) where
 
   pub parts-end : (s : List ℕ) (at : ℕ) → length s < at → partsFrom c s at ≡ []
   parts-end s at l = rw (lt-ltb (length s) at l)
+
+-- how many bytes parts have together
+unfoldable pub sizes : List (List ℕ) → ℕ
+sizes [] = 0
+sizes (x ∷ xs) = length x + sizes xs
+
+size-first : (b : ℕ) (xs : List (List ℕ)) → sizes (onFirst b xs) ≡ suc (sizes xs)
+unfolding sizes onFirst
+size-first b [] = refl
+size-first b (x ∷ xs) = omega arith
+
+-- at most those of the text
+pub parts-fit : (c : ℕ) (s : List ℕ) → sizes (splitAt c s) ≤ length s
+unfolding splitAt before sizes
+parts-fit c [] = omega arith
+parts-fit c (b ∷ s) =
+    by-test (eqb b c)
+    (λ y. rw y (omega (arith, parts-fit c s)))
+    (λ n. rw n (omega (arith, size-first b (splitAt c s), parts-fit c s)))
+
+-- a part, and those after it
+pub part-fits : (xs : List (List ℕ)) (k : ℕ) → length (getD xs k []) + sizes (drop (suc k) xs) ≤ sizes (drop k xs)
+unfolding sizes
+part-fits [] zero = omega arith
+part-fits (x ∷ xs) zero = omega arith
+part-fits [] (suc k) = omega arith
+part-fits (x ∷ xs) (suc k) = part-fits xs k
+
+pub rest-fits : (xs : List (List ℕ)) (k : ℕ) → sizes (drop k xs) ≤ sizes xs
+unfolding sizes
+rest-fits xs zero = omega arith
+rest-fits [] (suc k) = omega arith
+rest-fits (x ∷ xs) (suc k) = omega (arith, rest-fits xs k)

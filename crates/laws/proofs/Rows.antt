@@ -207,7 +207,7 @@ regions-length s = omega (arith, items-length false (blocks s), few (linesAt 0 0
     few (l ∷ ls) = omega (arith, blocks-length header ls)
 
 -- a part that stands in a text is there between the places of its span
-stands-bytes : (s : List ℕ) (p : Part) → Stands s p → bytesAt s (spanIs p .from) (spanIs p .to) ≡ p .bytes
+pub stands-bytes : (s : List ℕ) (p : Part) → Stands s p → bytesAt s (spanIs p .from) (spanIs p .to) ≡ p .bytes
 unfolding bytesAt spanIs isEmpty
 stands-bytes s p h = go (p .place) (p .bytes) h
   where

@@ -1,14 +1,10 @@
-// A request line read: `mend`, the cue's number, its start, end, identifier, settings and text, parted by tabs. It is proved that any line is
-// taken; how it is read is run and compared.
-mod fields;
-
-use fields::Decimal;
-use fields::Unescaped;
-use fields::count_of;
-use fields::field_after;
-use fields::field_at;
-use fields::read_decimal;
-use fields::unescape;
+// A request line read: `mend`, the cue's number, its start, end, identifier, settings and text, parted by tabs. Any line is taken. What is
+// answered is what the definition of a request says of the line, and the room holds the new cue's parts, or is as it was where the line is no
+// request.
+use cue_settings::steps::CueTaken;
+use fields::FieldLength;
+use fields::FieldNumber;
+use fields::nth;
 use format::rows::CueEntry;
 use format::rows::NewCueRow;
 use format::rows::RegionIndex;
@@ -16,47 +12,29 @@ use format::settings::Settings;
 use format::settings::Span;
 use values::bytes::same_bytes;
 use writable::part;
+ghost use Prim.Native.Nat.{_+_, _<_, _^_};
+ghost use mathlib.Core.Path.{_≡_};
+ghost use mathlib.Core.List.{[], _++_};
+ghost use mathlib.Core.Option.{Option·elim};
+ghost use lib.ListN.{length};
+ghost use Rattle.format.specs.Fields.{fields, unescaped};
+ghost use Rattle.format.specs.Requests.{settingsField, request, requestOf, lentText};
+ghost use Rattle.format.specs.Rows.{newCueWords};
+ghost use Rattle.output.specs.Puts.{roomWith};
+ghost use Rattle.cue_settings.specs.Steps.{takenIs};
+ghost use Rattle.fields.specs.Fields.{textOf};
+ghost use Rattle.requests.specs.Asked.{fieldOf, numbersIn, lengthsIn, restOf, askingIs, askedIs, nameOf};
 
 // What is asked for: the cue's number, the new cue, whose parts stand in a lent room, and the part there that is its region's name.
-pub struct Request {
+pub struct Asking {
     pub number: usize,
     pub cue: CueEntry,
     pub region: Span,
 }
 
 pub enum Asked {
-    Cue(Request),
     Bad,
-}
-
-// Where each field of a line stands.
-struct FieldPlaces {
-    word: Span,
-    number: Span,
-    start: Span,
-    end: Span,
-    id: Span,
-    settings: Span,
-    text: Span,
-}
-
-fn fields_of(line: &[u8]) -> FieldPlaces {
-    let word = field_at(line, 0);
-    let number = field_after(line, word);
-    let start = field_after(line, number);
-    let end = field_after(line, start);
-    let id = field_after(line, end);
-    let settings = field_after(line, id);
-    let text = field_after(line, settings);
-    FieldPlaces {
-        word,
-        number,
-        start,
-        end,
-        id,
-        settings,
-        text,
-    }
+    Cue(Asking),
 }
 
 struct Numbers {
@@ -66,77 +44,92 @@ struct Numbers {
 }
 
 enum NumbersRead {
-    Good(Numbers),
     Bad,
+    Good(Numbers),
 }
 
-fn decimal_in(line: &[u8], field: Span) -> Decimal {
-    read_decimal(part(line, field.from, field.to))
-}
-
-fn numbers_of(line: &[u8], fields: FieldPlaces) -> NumbersRead {
-    let first = decimal_in(line, fields.number);
-    let Decimal::Number(number) = first else {
+fn numbers_of(line: &[u8]) -> NumbersRead
+    ensures { λ r. ⌜ r ≡ numbersIn (fields (now (line .entry))) ⌝ }
+{
+    let FieldNumber::Number(number) = fields::read_number(nth(line, 1)) else {
         return NumbersRead::Bad;
     };
-    let second = decimal_in(line, fields.start);
-    let Decimal::Number(start) = second else {
+    let FieldNumber::Number(start) = fields::read_number(nth(line, 2)) else {
         return NumbersRead::Bad;
     };
-    let third = decimal_in(line, fields.end);
-    let Decimal::Number(end) = third else {
+    let FieldNumber::Number(end) = fields::read_number(nth(line, 3)) else {
         return NumbersRead::Bad;
     };
     NumbersRead::Good(Numbers { number, start, end })
 }
 
-// The parts of the new cue, in the room.
-struct Parts {
-    id: Span,
-    text: Span,
-    region: Span,
+// How long the identifier and the text are that the fields stand for.
+struct Lengths {
+    id: usize,
+    text: usize,
 }
 
-enum PartsPut {
-    Good(Parts),
+enum LengthsRead {
     Bad,
+    Good(Lengths),
 }
 
-fn unescape_in(line: &[u8], field: Span, room: &mut [u8], at: usize) -> Unescaped {
-    unescape(part(line, field.from, field.to), room, at)
+fn lengths_of(line: &[u8]) -> LengthsRead
+    ensures { λ r. ⌜ r ≡ lengthsIn (fields (now (line .entry))) ⌝ }
+{
+    let FieldLength::Of(id) = fields::length(nth(line, 4)) else {
+        return LengthsRead::Bad;
+    };
+    let FieldLength::Of(text) = fields::length(nth(line, 6)) else {
+        return LengthsRead::Bad;
+    };
+    LengthsRead::Good(Lengths { id, text })
+}
+
+fn settings_of(line: &[u8]) -> CueTaken
+    ensures { λ r. ⌜ r ≡ takenIs (settingsField (fieldOf (now (line .entry)) 5)) ⌝ }
+{
+    let field = nth(line, 5);
+    cue_settings::all_settings(field, 0, field.len())
+}
+
+// The name of the region that the settings ask for.
+fn name_of<'a>(line: &'a [u8]) -> &'a [u8]
+    ensures { λ r. ⌜ now r ≡ nameOf (fieldOf (now (line .entry)) 5) ⌝ }
+{
+    let taken = settings_of(line);
+    let region = taken.region;
+    part(nth(line, 5), region.from, region.to)
 }
 
 // Puts identifier, text and the region's name one after the other.
-fn put_parts(line: &[u8], id: Span, text: Span, region: Span, room: &mut [u8]) -> PartsPut {
-    let first = unescape_in(line, id, room, 0);
-    let Unescaped::To(id_end) = first else {
-        return PartsPut::Bad;
-    };
-    let second = unescape_in(line, text, room, id_end);
-    let Unescaped::To(text_end) = second else {
-        return PartsPut::Bad;
-    };
-    let region_end = output::bytes(part(line, region.from, region.to), room, text_end);
-    PartsPut::Good(Parts {
-        id: Span {
-            from: 0,
-            to: id_end,
-        },
-        text: Span {
-            from: id_end,
-            to: text_end,
-        },
-        region: Span {
-            from: text_end,
-            to: region_end,
-        },
-    })
+fn put_parts(line: &[u8], room: &mut [u8])
+    ensures { λ _. ⌜ now (room .exit) ≡ roomWith 0 (textOf (unescaped (fieldOf (now (line .entry)) 4)) ++ textOf (unescaped (fieldOf (now (line .entry)) 6)) ++ nameOf (fieldOf (now (line .entry)) 5)) (now (room .entry)) ⌝ }
+{
+    let id_end = fields::put(nth(line, 4), room, 0);
+    let text_end = fields::put(nth(line, 6), room, id_end);
+    output::bytes(name_of(line), room, text_end);
 }
 
-// The region is asked for by its name, so the entry has none.
-fn request_of(numbers: Numbers, settings: Settings, parts: Parts) -> Request {
-    let id = parts.id;
-    let text = parts.text;
+// The new cue over what was put, its name of so many bytes after the text. The region is asked for by its name, so the entry has none.
+fn asking_of(numbers: Numbers, settings: Settings, lengths: Lengths, name: usize) -> Asking
+    requires { ⌜ lengths .id + lengths .text + name < 2 ^ 64 ⌝ }
+    ensures { λ r. ⌜ r ≡ askingIs numbers settings lengths name ⌝ }
+{
+    let id_end = lengths.id;
+    let text_end = id_end + lengths.text;
+    let id = Span {
+        from: 0,
+        to: id_end,
+    };
+    let text = Span {
+        from: id_end,
+        to: text_end,
+    };
+    let region = Span {
+        from: text_end,
+        to: text_end + name,
+    };
     let cue = CueEntry {
         id,
         start: numbers.start,
@@ -145,47 +138,58 @@ fn request_of(numbers: Numbers, settings: Settings, parts: Parts) -> Request {
         settings,
         region: RegionIndex::None,
     };
-    let region = parts.region;
-    Request {
+    Asking {
         number: numbers.number as usize,
         cue,
         region,
     }
 }
 
-// What the fields of a line ask for.
-fn read_fields(line: &[u8], fields: FieldPlaces, room: &mut [u8]) -> Asked {
-    let read = numbers_of(line, fields);
-    let NumbersRead::Good(numbers) = read else {
+// What the fields after the numbers ask for.
+fn read_rest(line: &[u8], numbers: Numbers, room: &mut [u8]) -> Asked
+    ensures answer { λ r. ⌜ r ≡ askedIs (restOf numbers (fields (now (line .entry)))) ⌝ }
+    ensures room { λ _. ⌜ now (room .exit) ≡ roomWith 0 (Option·elim (restOf numbers (fields (now (line .entry)))) [] lentText) (now (room .entry)) ⌝ }
+{
+    let LengthsRead::Good(lengths) = lengths_of(line) else {
         return Asked::Bad;
     };
-    let field = fields.settings;
-    let taken = cue_settings::all_settings(line, field.from, field.to);
+    let taken = settings_of(line);
     if taken.over {
         return Asked::Bad;
     }
+    put_parts(line, room);
+    let name = name_of(line);
     let settings = taken.settings;
-    let put = put_parts(line, fields.id, fields.text, taken.region, room);
-    let PartsPut::Good(parts) = put else {
-        return Asked::Bad;
-    };
-    Asked::Cue(request_of(numbers, settings, parts))
+    Asked::Cue(asking_of(numbers, settings, lengths, name.len()))
+}
+
+fn read_fields(line: &[u8], room: &mut [u8]) -> Asked
+    ensures answer { λ r. ⌜ r ≡ askedIs (requestOf (fields (now (line .entry)))) ⌝ }
+    ensures room { λ _. ⌜ now (room .exit) ≡ roomWith 0 (Option·elim (requestOf (fields (now (line .entry)))) [] lentText) (now (room .entry)) ⌝ }
+{
+    match numbers_of(line) {
+        NumbersRead::Bad => Asked::Bad,
+        NumbersRead::Good(numbers) => read_rest(line, numbers, room),
+    }
 }
 
 // What a line asks for. The new cue's parts are put into the room.
-pub fn read(line: &[u8], room: &mut [u8]) -> Asked {
-    if count_of(line, b'\t') != 6 {
+pub fn read(line: &[u8], room: &mut [u8]) -> Asked
+    ensures answer { λ r. ⌜ r ≡ askedIs (request (now (line .entry))) ⌝ }
+    ensures room { λ _. ⌜ now (room .exit) ≡ roomWith 0 (Option·elim (request (now (line .entry))) [] lentText) (now (room .entry)) ⌝ }
+{
+    if fields::count(line) != 7 {
         return Asked::Bad;
     }
-    let fields = fields_of(line);
-    let word = fields.word;
-    if !same_bytes(part(line, word.from, word.to), b"mend") {
+    if !same_bytes(nth(line, 0), b"mend") {
         return Asked::Bad;
     }
-    read_fields(line, fields, room)
+    read_fields(line, room)
 }
 
 // The new cue as it is lent for replacing.
-pub fn row(request: Request) -> NewCueRow {
-    rows::new_cue_row(request.cue, request.region)
+pub fn row(asking: Asking) -> NewCueRow
+    ensures { λ r. ⌜ r ≡ newCueWords (asking .cue) (asking .region) ⌝ }
+{
+    rows::new_cue_row(asking.cue, asking.region)
 }

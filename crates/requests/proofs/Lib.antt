@@ -1,0 +1,2 @@
+-- Laws that this crate's proofs, and those of mending, cite.
+pub mod RequestLaws
