@@ -1,2 +1,2 @@
--- What mending promises.
-pub mod Mended
+-- What the contracts of this crate's own functions say beyond `format`.
+pub mod Asked

@@ -1,12 +1,12 @@
 -- A line is a request by its tests, one after the other; what is asked for, and the bytes that are put for it.
 use Prim.Native.Nat.{ℕ, _+_, _-_, _≤_, min}
-use mathlib.Core.Path.{_≡_, refl, ap}
-use mathlib.Core.Bool.{true, false}
+use mathlib.Core.Path.{_≡_, refl, sym, ap, _∙_}
+use mathlib.Core.Bool.{true, false, _&&_}
 use mathlib.Core.List.{List, [], _++_}
-use mathlib.Core.Option.{Option, none, some, bind, Option·elim}
+use mathlib.Core.Option.{Option, none, some, bind, Option·elim, Option·none-ne-some, Option·some-injective}
 use native.Mathlib.Omega.{arith}
 use lib.Dec.{eqb}
-use lib.ListN.{length, getD, take, drop, length-take, length-drop}
+use lib.ListN.{length, getD, take, drop, length-take, length-drop, length-append}
 use lib.Seq.{take-length}
 use borrow.Author.Tests.{eq-eqb, ne-eqb}
 use Rattle.format.specs.Bytes.{ascii, tab}
@@ -15,7 +15,7 @@ use Rattle.format.specs.Fields.{fields, fieldNumber, escapes, unescaped}
 use Rattle.format.specs.Tokens.{Flagged}
 use Rattle.format.specs.CueSettings.{CueSettings, cueSettings, spanIs}
 use Rattle.format.specs.Requests.{Request, settingsField, requestWith, requestOf, request, lentText, idSpan, textSpan, nameSpan, lentEntry}
-use Rattle.laws.proofs.Tests.{and-false}
+use Rattle.laws.proofs.Tests.{by-test, and-false}
 use Rattle.laws.proofs.Parted.{parts-fit, part-fits, rest-fits}
 use Rattle.laws.proofs.Standing.{stands-cue-settings}
 use Rattle.laws.proofs.Rows.{stands-bytes}
@@ -154,24 +154,15 @@ name-length f =
     let place = settingsField f .value .region .place in
     omega (arith, ap length (name-stands f), length-take (length (nameOf f)) (drop place f), length-drop place f)
 
--- what is put is no longer than the line
-sums-fit :
-    (i t : Option (List ℕ)) (l : Lengths) → lengthsIs (lengthIs i) (lengthIs t) ≡ LengthsRead.Good l → l .id + l .text ≡ length (textOf i) + length (textOf t)
-sums-fit none t l e = let z : _≡_ {A = ℕ} 0 1 = cc in absurd (omega arith)
-sums-fit (some x) none l e = let z : _≡_ {A = ℕ} 0 1 = cc in absurd (omega arith)
-sums-fit (some x) (some y) l e =
-    let is : _≡_ {A = Lengths} l (record { id = length x; text = length y }) = cc in
-    rw is refl
-
-pub asked-fits :
-    (line : List ℕ) (l : Lengths)
-    → lengthsIn (fields line) ≡ LengthsRead.Good l
-    → l .id + l .text + length (nameOf (getD (fields line) 5 [])) ≤ length line
-asked-fits line l e =
+-- the texts that a line's fields stand for, and the name, are together no longer than the line
+fields-fit :
+    (line : List ℕ)
+    → let fs = fields line in
+    length (textOf (unescaped (getD fs 4 []))) + length (textOf (unescaped (getD fs 6 []))) + length (nameOf (getD fs 5 [])) ≤ length line
+fields-fit line =
     let fs = fields line in
     omega (
       arith,
-      sums-fit (unescaped (getD fs 4 [])) (unescaped (getD fs 6 [])) l e,
       text-length escapes false (getD fs 4 []),
       text-length escapes false (getD fs 6 []),
       name-length (getD fs 5 []),
@@ -181,3 +172,51 @@ asked-fits line l e =
       rest-fits fs 4,
       parts-fit tab line,
     )
+
+-- so the places in the room are numbers
+lengths-are :
+    (i t : Option (List ℕ)) (l : Lengths)
+    → lengthsIs (lengthIs i) (lengthIs t) ≡ LengthsRead.Good l
+    → l .id + l .text ≡ length (textOf i) + length (textOf t)
+lengths-are none t l e = let z : _≡_ {A = ℕ} 0 1 = cc in absurd (omega arith)
+lengths-are (some x) none l e = let z : _≡_ {A = ℕ} 0 1 = cc in absurd (omega arith)
+lengths-are (some x) (some y) l e =
+    let is : _≡_ {A = Lengths} l (record { id = length x; text = length y }) = cc in
+    rw is refl
+
+pub asked-fits :
+    (line : List ℕ) (l : Lengths)
+    → lengthsIn (fields line) ≡ LengthsRead.Good l
+    → l .id + l .text + length (nameOf (getD (fields line) 5 [])) ≤ length line
+asked-fits line l e =
+    let fs = fields line in
+    omega (arith, lengths-are (unescaped (getD fs 4 [])) (unescaped (getD fs 6 [])) l e, fields-fit line)
+
+-- and so does the text that is lent fit into a room of the line's length
+pub lent-size : (q : Request) → length (lentText q) ≡ length (q .id) + length (q .text) + length (q .region)
+unfolding lentText
+lent-size q = length-append (q .id ++ q .text) (q .region) ∙ ap (λ n. n + length (q .region)) (length-append (q .id) (q .text))
+
+with-size :
+    (a b c : Option ℕ) (i : Option (List ℕ)) (s : Flagged CueSettings) (t : Option (List ℕ)) (q : Request)
+    → requestWith a b c i s t ≡ some q
+    → length (lentText q) ≡ length (textOf i) + length (textOf t) + length (s .value .region .bytes)
+unfolding requestWith bind
+with-size none b c i s t q e = absurd (Option·none-ne-some q e)
+with-size (some n) none c i s t q e = absurd (Option·none-ne-some q e)
+with-size (some n) (some from) none i s t q e = absurd (Option·none-ne-some q e)
+with-size (some n) (some from) (some to) none s t q e = absurd (Option·none-ne-some q e)
+with-size (some n) (some from) (some to) (some x) s none q e = absurd (Option·none-ne-some q e)
+with-size (some n) (some from) (some to) (some x) s (some y) q e =
+    by-test (s .over)
+    (λ over. absurd (Option·none-ne-some q (rw over at e)))
+    (λ under. lent-size q ∙ ap (λ (p : Request). length (p .id) + length (p .text) + length (p .region)) (sym (Option·some-injective _ q (rw under at e))))
+
+pub lent-fits : (line : List ℕ) (q : Request) → request line ≡ some q → length (lentText q) ≤ length line
+unfolding request requestOf nameOf
+lent-fits line q e =
+    by-test (eqb (length (fields line)) 7 && same (getD (fields line) 0 []) (ascii "mend"))
+    (λ y. let fs = fields line in
+    let size = with-size (fieldNumber (getD fs 1 [])) (fieldNumber (getD fs 2 [])) (fieldNumber (getD fs 3 [])) (unescaped (getD fs 4 [])) (settingsField (getD fs 5 [])) (unescaped (getD fs 6 [])) q (rw y at e) in
+    omega (arith, size, fields-fit line))
+    (λ n. absurd (Option·none-ne-some q (rw n at e)))

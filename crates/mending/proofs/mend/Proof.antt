@@ -4,7 +4,8 @@ use mathlib.Core.Path.{_≡_, sym, _∙_}
 use native.Mathlib.Omega.{arith}
 use lib.ListN.{length, take, drop, length-drop}
 use lib.Seq.{length-take-le, take-all}
-use Rattle.mending.proofs.MendLaws.{after-line}
+use Rattle.format.specs.Requests.{mending, mendedRoom, mendedScratch}
+use Rattle.mending.proofs.MendLaws.{line-unended, line-long, line-is, after-line, bad-mended}
 use borrow.Author.Needs.{needs}
 use Rattle.mending.proofs.mend.Statement.{statement}
 use Rattle.mending.proofs.mend.Tie as tie
@@ -13,10 +14,20 @@ past-requires : tie.Need-past-requires
 past-requires c κs = search needs
 
 returns : tie.Need-returns
-returns c = search needs
+unfolding mending mendedRoom mendedScratch
+returns c =
+    let args = c .before .before .before .before .before .args in
+    let past = c .before .past in
+    let done = bad-mended _ (args .longer) (args .scratch .now) (args .out .now) (line-long (args .input .now) (past .result) (past .ensures) (omega arith)) in
+    (done .answer, (done .scratched, (done .holds, done .replaced)))
 
 returns-2 : tie.Need-returns-2
-returns-2 c = search needs
+unfolding mending mendedRoom mendedScratch
+returns-2 c =
+    let args = c .before .before .before .before .before .before .args in
+    let past = c .before .before .past in
+    let done = bad-mended _ (args .longer) (args .scratch .now) (args .out .now) (line-unended (args .input .now) (past .result) (past .ensures) (omega arith)) in
+    (done .answer, (done .scratched, (done .holds, done .replaced)))
 
 add-after : tie.Need-add-after
 add-after c = search needs
@@ -34,7 +45,10 @@ part-mend-line-end : tie.Need-part-mend-line-end
 part-mend-line-end c = search needs
 
 mend-line-requires : tie.Need-mend-line-requires
-mend-line-requires c κs = search needs
+mend-line-requires c κs =
+    let end = c .before .before .before .before .before .before in
+    let input = end .before .before .before .before .args .input .now in
+    omega (arith, length-take-le (end .past .result) input (omega arith))
 
 same-length : tie.Need-same-length
 same-length c = search needs
@@ -43,14 +57,19 @@ same-length-2 : tie.Need-same-length-2
 same-length-2 c = search needs
 
 returns-3 : tie.Need-returns-3
+unfolding mending mendedRoom mendedScratch
 returns-3 c =
-    let input = c .before .before .before .before .before .before .before .before .before .before .before .before .before .before .before .args .input .now in
-    let past = c .before .before .before .before .before .before .before .before .before .before .before .past in
-    let done = c .before .before .before .before .mend-line .ensures in
-    let beyond = past .result + 1 in
+    let past = c .before .before .before .before .before .before .before .before .before .before .before in
+    let end = past .past .result in
+    let args = past .before .before .before .before .args in
+    let input = args .input .now in
+    let beyond = end + 1 in
     let all : take (length input - beyond) (drop beyond input) ≡ drop beyond input =
     take-all (length input - beyond) (drop beyond input) (omega (arith, length-drop beyond input)) in
-    rw (after-line input (past .result) (past .ensures) ∙ sym all) (done .0, done .1)
+    let line = line-is input end (past .past .ensures) (omega arith) (omega arith) in
+    let raw = after-line input end (past .past .ensures) ∙ sym all in
+    let done = rw (← line, ← raw) at (c .before .before .before .before .mend-line .ensures) in
+    (done .answer, (done .scratched, (done .holds, done .replaced)))
 
 pub mend-spec : {M : Type 1} → statement M
 mend-spec =
