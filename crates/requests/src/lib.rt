@@ -17,12 +17,12 @@ ghost use mathlib.Core.Path.{_≡_};
 ghost use mathlib.Core.List.{[], _++_};
 ghost use mathlib.Core.Option.{Option·elim};
 ghost use lib.ListN.{length};
-ghost use Rattle.format.specs.Fields.{fields, unescaped};
+ghost use Rattle.format.specs.Fields.{fields, fieldNumber, unescaped};
 ghost use Rattle.format.specs.Requests.{settingsField, request, requestOf, lentText};
 ghost use Rattle.format.specs.Rows.{newCueWords};
 ghost use Rattle.output.specs.Puts.{roomWith};
 ghost use Rattle.cue_settings.specs.Steps.{takenIs};
-ghost use Rattle.fields.specs.Fields.{textOf};
+ghost use Rattle.fields.specs.Fields.{numberIs, lengthIs, textOf};
 ghost use Rattle.requests.specs.Asked.{fieldOf, numbersIn, lengthsIn, restOf, askingIs, askedIs, nameOf};
 
 // What is asked for: the cue's number, the new cue, whose parts stand in a lent room, and the part there that is its region's name.
@@ -48,16 +48,22 @@ enum NumbersRead {
     Good(Numbers),
 }
 
+fn number_in(line: &[u8], k: usize) -> FieldNumber
+    ensures { λ r. ⌜ r ≡ numberIs (fieldNumber (fieldOf (now (line .entry)) k)) ⌝ }
+{
+    fields::read_number(nth(line, k))
+}
+
 fn numbers_of(line: &[u8]) -> NumbersRead
     ensures { λ r. ⌜ r ≡ numbersIn (fields (now (line .entry))) ⌝ }
 {
-    let FieldNumber::Number(number) = fields::read_number(nth(line, 1)) else {
+    let FieldNumber::Number(number) = number_in(line, 1) else {
         return NumbersRead::Bad;
     };
-    let FieldNumber::Number(start) = fields::read_number(nth(line, 2)) else {
+    let FieldNumber::Number(start) = number_in(line, 2) else {
         return NumbersRead::Bad;
     };
-    let FieldNumber::Number(end) = fields::read_number(nth(line, 3)) else {
+    let FieldNumber::Number(end) = number_in(line, 3) else {
         return NumbersRead::Bad;
     };
     NumbersRead::Good(Numbers { number, start, end })
@@ -74,13 +80,19 @@ enum LengthsRead {
     Good(Lengths),
 }
 
+fn length_in(line: &[u8], k: usize) -> FieldLength
+    ensures { λ r. ⌜ r ≡ lengthIs (unescaped (fieldOf (now (line .entry)) k)) ⌝ }
+{
+    fields::length(nth(line, k))
+}
+
 fn lengths_of(line: &[u8]) -> LengthsRead
     ensures { λ r. ⌜ r ≡ lengthsIn (fields (now (line .entry))) ⌝ }
 {
-    let FieldLength::Of(id) = fields::length(nth(line, 4)) else {
+    let FieldLength::Of(id) = length_in(line, 4) else {
         return LengthsRead::Bad;
     };
-    let FieldLength::Of(text) = fields::length(nth(line, 6)) else {
+    let FieldLength::Of(text) = length_in(line, 6) else {
         return LengthsRead::Bad;
     };
     LengthsRead::Good(Lengths { id, text })

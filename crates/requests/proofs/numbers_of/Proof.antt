@@ -1,23 +1,11 @@
 -- `requests::numbers_of` meets its contract.
-use mathlib.Core.Path.{_≡_, refl, sym, ap, _∙_}
-use mathlib.Core.List.{List}
-use Prim.Native.Nat.{ℕ}
-use Rattle.format.specs.Fields.{fieldNumber}
-use Rattle.fields.specs.Fields.{numberIs}
-use Rattle.fields.specs.declared.FieldNumber.{FieldNumber}
+use mathlib.Core.Path.{refl, sym, _∙_}
 use borrow.Author.Needs.{needs}
 use Rattle.requests.proofs.numbers_of.Statement.{statement}
 use Rattle.requests.proofs.numbers_of.Tie as tie
 
--- the number that was read of a field
-read-as : {f g : List ℕ} {r m : FieldNumber} → f ≡ g → r ≡ numberIs (fieldNumber f) → r ≡ m → numberIs (fieldNumber g) ≡ m
-read-as e k h = ap (λ f. numberIs (fieldNumber f)) (sym e) ∙ sym k ∙ h
-
-nth-requires : tie.Need-nth-requires
-nth-requires c κs = search needs
-
-read-number-requires : tie.Need-read-number-requires
-read-number-requires c κs = search needs
+number-in-requires : tie.Need-number-in-requires
+number-in-requires c κs = search needs
 
 enum-known-number : tie.Need-enum-known-number
 enum-known-number c = search needs
@@ -26,13 +14,10 @@ enum-told : tie.Need-enum-told
 enum-told c = search needs
 
 returns : tie.Need-returns
-returns c = rw (read-as (c .before .before .before .nth .ensures) (c .before .before .read-number .ensures) (c .enum-told .given .1)) refl
+returns c = rw (sym (c .before .before .number-in .ensures) ∙ c .enum-told .given .1) refl
 
-nth-requires-2 : tie.Need-nth-requires-2
-nth-requires-2 c κs = search needs
-
-read-number-requires-2 : tie.Need-read-number-requires-2
-read-number-requires-2 c κs = search needs
+number-in-requires-2 : tie.Need-number-in-requires-2
+number-in-requires-2 c κs = search needs
 
 enum-known-start : tie.Need-enum-known-start
 enum-known-start c = search needs
@@ -42,15 +27,13 @@ enum-told-2 c = search needs
 
 returns-2 : tie.Need-returns-2
 returns-2 c =
+    let number = c .before .before .before .before in
     rw
-    (read-as (c .before .before .before .before .before .before .before .before .nth .ensures) (c .before .before .before .before .before .before .before .read-number .ensures) (c .before .before .before .before .before .number .given .1), read-as (c .before .before .before .nth2 .ensures) (c .before .before .read-number2 .ensures) (c .enum-told2 .given .1))
+    (sym (number .before .before .number-in .ensures) ∙ number .number .given .1, sym (c .before .before .number-in2 .ensures) ∙ c .enum-told2 .given .1)
     refl
 
-nth-requires-3 : tie.Need-nth-requires-3
-nth-requires-3 c κs = search needs
-
-read-number-requires-3 : tie.Need-read-number-requires-3
-read-number-requires-3 c κs = search needs
+number-in-requires-3 : tie.Need-number-in-requires-3
+number-in-requires-3 c κs = search needs
 
 enum-known-end : tie.Need-enum-known-end
 enum-known-end c = search needs
@@ -60,32 +43,34 @@ enum-told-3 c = search needs
 
 returns-3 : tie.Need-returns-3
 returns-3 c =
-    rw
-    (read-as (c .before .before .before .before .before .before .before .before .before .before .before .before .before .nth .ensures) (c .before .before .before .before .before .before .before .before .before .before .before .before .read-number .ensures) (c .before .before .before .before .before .before .before .before .before .before .number .given .1), read-as (c .before .before .before .before .before .before .before .before .nth2 .ensures) (c .before .before .before .before .before .before .before .read-number2 .ensures) (c .before .before .before .before .before .start .given .1), read-as (c .before .before .before .nth3 .ensures) (c .before .before .read-number3 .ensures) (c .enum-told3 .given .1))
-    refl
+    let start = c .before .before .before .before in
+    let number = start .before .before .before .before in
+    let first = sym (number .before .before .number-in .ensures) ∙ number .number .given .1 in
+    let second = sym (start .before .before .number-in2 .ensures) ∙ start .start .given .1 in
+    rw (first, second, sym (c .before .before .number-in3 .ensures) ∙ c .enum-told3 .given .1) refl
 
 returns-4 : tie.Need-returns-4
 returns-4 c =
-    rw
-    (read-as (c .before .before .before .before .before .before .before .before .before .before .before .before .before .before .nth .ensures) (c .before .before .before .before .before .before .before .before .before .before .before .before .before .read-number .ensures) (c .before .before .before .before .before .before .before .before .before .before .before .number .given .1), read-as (c .before .before .before .before .before .before .before .before .before .nth2 .ensures) (c .before .before .before .before .before .before .before .before .read-number2 .ensures) (c .before .before .before .before .before .before .start .given .1), read-as (c .before .before .before .before .nth3 .ensures) (c .before .before .before .read-number3 .ensures) (c .before .end .given .1))
-    refl
+    let end = c .before in
+    let start = end .before .before .before .before in
+    let number = start .before .before .before .before in
+    let first = sym (number .before .before .number-in .ensures) ∙ number .number .given .1 in
+    let second = sym (start .before .before .number-in2 .ensures) ∙ start .start .given .1 in
+    rw (first, second, sym (end .before .before .number-in3 .ensures) ∙ end .end .given .1) refl
 
 pub numbers-of-spec : {M : Type 1} → statement M
 numbers-of-spec =
     tie.close
     (tie.spec
-    nth-requires
-    read-number-requires
+    number-in-requires
     enum-known-number
     enum-told
     returns
-    nth-requires-2
-    read-number-requires-2
+    number-in-requires-2
     enum-known-start
     enum-told-2
     returns-2
-    nth-requires-3
-    read-number-requires-3
+    number-in-requires-3
     enum-known-end
     enum-told-3
     returns-3
