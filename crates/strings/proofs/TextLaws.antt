@@ -11,11 +11,11 @@ use lib.Seq.{take-suc, drop-cons, getD-drop}
 use borrow.Author.Tests.{eq-eqb, ne-eqb, le-ltb, ltb-true, ltb-false}
 use Rattle.format.specs.Bytes.{ascii, ampersand, semicolon, fullStop, alphanumeric}
 use Rattle.format.specs.Texts.{same, isEmpty, bytesAt}
-use Rattle.format.specs.Lines.{onFirst}
+use Rattle.format.specs.Lines.{onFirst, before, splitAt}
 use Rattle.format.specs.CueText.{escaped, parted, collapsing, collapsedFrom, collapsed}
 use Rattle.format.specs.Trees.{classString}
 use Rattle.tokenizer.specs.Decoding.{added, holding, decodedFrom, decoded}
-use Rattle.tokenizer.specs.Tags.{atStop, splitStops, classesOf}
+use Rattle.tokenizer.specs.Tags.{splitStops, classesOf}
 use Rattle.laws.proofs.Tests.{by-test, and-false}
 use Rattle.laws.proofs.Runs.{same-is}
 use Rattle.strings.specs.Stores.{separates, one}
@@ -333,7 +333,7 @@ abbrev onStops : Bool → List ℕ → List ℕ
 onStops inside s = collapsedFrom (separates true) (one true) inside s
 
 class-strings : (s : List ℕ) → (classString (splitStops s) ≡ onStops false s) × (firstOut (splitStops s) ≡ onStops true s)
-unfolding splitStops atStop collapsedFrom collapsing firstOut classString parted isEmpty
+unfolding splitAt before collapsedFrom collapsing firstOut classString parted isEmpty
 class-strings [] = (refl, refl)
 class-strings (b ∷ s) =
     let again = class-strings s in

@@ -10,11 +10,11 @@ use lib.ListN.{drop}
 use borrow.Author.Tests.{eqb-true, ne-eqb, leb-true, not-true}
 use Rattle.format.specs.Bytes.{tab, lf, formFeed, space, fullStop, solidus, less, greater, digit, white}
 use Rattle.format.specs.Texts.{all, isEmpty, run, pastRun}
-use Rattle.format.specs.Lines.{onFirst}
+use Rattle.format.specs.Lines.{onFirst, before, splitAt}
 use Rattle.format.specs.CueText.{Token, startTag, State, inData, inEscape, inTag, inStartTag, inClass, inAnnotation, inEndTag, inTimestampTag, Visit, goOn, passing, dataEnd, escapeEnd, tagEnd, startTagEnd, classEnd, annotationEnd, endTagEnd, timestampTagEnd, dataState, tagState, startTagState, classState, annotationState, endTagState, timestampTagState, blank, newBuffer, collapsing, collapsedFrom, collapsed, visit, visitEnd, begun, returned, afterVisit, afterCharacter, cueTokensFrom, cueTokens}
 use Rattle.laws.proofs.Tests.{by-test, and-left, and-right}
 use Rattle.laws.proofs.Runs.{run-all}
-use Rattle.tokenizer.specs.Tags.{inName, atStop, splitStops, classesOf, startOf, tagOf}
+use Rattle.tokenizer.specs.Tags.{inName, splitStops, classesOf, startOf, tagOf}
 
 -- all but `>`
 abbrev pub notGreater : ℕ → Bool
@@ -174,7 +174,7 @@ joined-none c [] = refl
 joined-none c (d ∷ cs) = refl
 
 joined-split : (s : List ℕ) → joinedTo [] (splitStops s) ≡ splitStops s
-unfolding joinedTo splitStops atStop
+unfolding joinedTo splitAt before
 joined-split [] = refl
 joined-split (c ∷ s) = by-test (eqb c fullStop) (λ y. rw y) (λ n. rw n (joined-none c (splitStops s)))
 
@@ -226,7 +226,7 @@ class-closes :
     → all notGreater x ≡ true
     → closing (after (inClass r cs b) x)
     ≡ startTag r (cs ++ joinedTo b (splitStops (run (inName false) x))) (collapsed white space (pastRun (inName false) x))
-unfolding after all run pastRun closing joinedTo splitStops atStop collapsed collapsedFrom
+unfolding after all run pastRun closing joinedTo splitAt before collapsed collapsedFrom
 class-closes r cs b [] p = rw (append-nil b)
 class-closes r cs b (c ∷ x) p =
     let g = not-true (eqb c greater) (and-left (not (eqb c greater)) (all notGreater x) p) in

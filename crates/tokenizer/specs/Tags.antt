@@ -7,7 +7,7 @@ use lib.Dec.{eqb, ltb}
 use lib.ListN.{length, getD, take, drop}
 use Rattle.format.specs.Bytes.{fullStop, solidus, space, less, greater, digit, white}
 use Rattle.format.specs.Texts.{run, pastRun, bytesAt}
-use Rattle.format.specs.Lines.{onFirst}
+use Rattle.format.specs.Lines.{splitAt}
 use Rattle.format.specs.CueText.{stringToken, startTag, endTag, timestampTag, blank, collapsed, cueTokens}
 use Rattle.format.specs.CueText as CueText
 use Rattle.format.specs.declared.settings.Span.{Span}
@@ -22,12 +22,8 @@ unfoldable pub inName : Bool → ℕ → Bool
 inName stops c = not (blank c || (stops && eqb c fullStop))
 
 -- a text split at its full stops
-unfoldable pub atStop : ℕ → List (List ℕ) → List (List ℕ)
-atStop b cs = cond (eqb b fullStop) ([] ∷ cs) (onFirst b cs)
-
-unfoldable pub splitStops : List ℕ → List (List ℕ)
-splitStops [] = [] ∷ []
-splitStops (b ∷ s) = atStop b (splitStops s)
+abbrev pub splitStops : List ℕ → List (List ℕ)
+splitStops = splitAt fullStop
 
 -- the classes of what stands between a tag's name and its annotation: nothing, or a full stop and the classes
 unfoldable pub classesOf : List ℕ → List (List ℕ)
