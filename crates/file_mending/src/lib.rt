@@ -4,34 +4,13 @@ use format::Mending;
 use format::Replacing;
 use libc::STDOUT_FILENO;
 use writable::part;
-ghost use mathlib.Core.Path.{_≡_};
-ghost use Rattle.format.specs.Answers.{refusalNumber};
-ghost use Rattle.format.specs.Replacing.{replacingIs};
-
-// The number of a refusal; 0 where there is a file.
-fn refusal_number(answer: Replacing) -> u64
-    ensures { λ r. ⌜ r ≡ refusalNumber (replacingIs answer) ⌝ }
-{
-    match answer {
-        Replacing::File(_) => 0,
-        Replacing::RawTooLong => 1,
-        Replacing::ScratchTooShort(_) => 2,
-        Replacing::NoSignature => 4,
-        Replacing::OverLimit => 5,
-        Replacing::NoSuchCue(_) => 7,
-        Replacing::NotWritable { number: _, test: _ } => 8,
-        Replacing::NoGap => 9,
-        Replacing::FileTooLong => 1,
-        Replacing::OutTooShort(_) => 10,
-    }
-}
 
 fn print_answer(answer: Replacing, out: &[u8]) {
     match answer {
         Replacing::File(length) => {
             io::write_all(STDOUT_FILENO, part(out, 0, length));
         }
-        _ => listing::refuse(refusal_number(answer)),
+        _ => listing::refuse(refusals::of_replacing(answer)),
     }
 }
 

@@ -11,7 +11,7 @@ ghost use Rattle.format.specs.Lists.{lists};
 ghost use Rattle.format.specs.Rows.{cueRows, regionRows, styleRows};
 ghost use Rattle.format.specs.Answers.{refusalNumber};
 ghost use Rattle.format.specs.Converting.{convertedRoom};
-ghost use Rattle.format.specs.Reading.{readingIs, reading, readingRaw, afterReading};
+ghost use Rattle.format.specs.Reading.{reading, readingRaw, afterReading};
 
 mod cue_lines;
 mod node_lines;
@@ -40,28 +40,6 @@ pub fn refuse_more(file: i32) -> bool {
     true
 }
 
-// The number of a refusal to read; 0 for lists.
-fn reading_number(answer: Reading) -> u64
-    ensures { λ r. ⌜ r ≡ refusalNumber (readingIs answer) ⌝ }
-{
-    match answer {
-        Reading::Lists {
-            cues: _,
-            regions: _,
-            styles: _,
-        } => 0,
-        Reading::TextTooLong => 1,
-        Reading::TextNotPlainAt(_) => 3,
-        Reading::NoSignature => 4,
-        Reading::OverLimit => 5,
-        Reading::TablesTooShort {
-            cues: _,
-            regions: _,
-            styles: _,
-        } => 6,
-    }
-}
-
 // Prints the lines of a plain text. Hands back the number of a refusal to read, for which nothing is printed, and 0 where there is none.
 fn show_text(
     text: &[u8],
@@ -81,7 +59,7 @@ fn show_text(
         styles: s,
     } = answer
     else {
-        return reading_number(answer);
+        return refusals::of_reading(answer);
     };
     style_lines::print_all(text, styles, s);
     region_lines::print_all(text, regions, r);

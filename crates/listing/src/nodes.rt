@@ -5,21 +5,7 @@ use format::rows::NodeRow;
 ghost use mathlib.Core.Path.{_≡_};
 ghost use lib.ListN.{length};
 ghost use Rattle.format.specs.Answers.{refusalNumber};
-ghost use Rattle.format.specs.Trees.{treeIs, treeing, treeRoom, treeTable};
-
-// The number of a refusal to read; 0 for nodes.
-fn refusal_number(answer: Tree) -> u64
-    ensures { λ r. ⌜ r ≡ refusalNumber (treeIs answer) ⌝ }
-{
-    match answer {
-        Tree::Nodes { count: _, used: _ } => 0,
-        Tree::TextTooLong => 1,
-        Tree::TextNotPlainAt(_) => 3,
-        Tree::OverLimit => 5,
-        Tree::RoomTooShort(_) => 2,
-        Tree::TableTooShort(_) => 6,
-    }
-}
+ghost use Rattle.format.specs.Trees.{treeing, treeRoom, treeTable};
 
 // Prints the lines of a cue text. The strings of its nodes go to `room`, and their rows to the table. Hands back the number of a refusal, for
 // which nothing is printed, and 0 where there is none.
@@ -30,7 +16,7 @@ pub(crate) fn show(text: &[u8], room: &mut [u8], nodes: &mut [NodeRow]) -> u64
 {
     let answer = markup::tree(text, room, nodes);
     let Tree::Nodes { count, used: _ } = answer else {
-        return refusal_number(answer);
+        return refusals::of_tree(answer);
     };
     node_lines::print_all(room, nodes, count);
     0

@@ -1,10 +1,10 @@
--- `listing::reading_number` meets its contract.
+-- `refusals::of_reading` meets its contract.
 use mathlib.Core.Path.{refl}
 use Rattle.format.specs.Reading.{readingIs}
 use Rattle.format.specs.Answers.{refusalNumber}
 use borrow.Author.Needs.{needs}
-use Rattle.listing.proofs.reading_number.Statement.{statement}
-use Rattle.listing.proofs.reading_number.Tie as tie
+use Rattle.refusals.proofs.of_reading.Statement.{statement}
+use Rattle.refusals.proofs.of_reading.Tie as tie
 
 enum-told : tie.Need-enum-told
 enum-told c = search needs
@@ -48,8 +48,8 @@ returns-6 : tie.Need-returns-6
 unfolding refusalNumber readingIs
 returns-6 c = rw (c .enum-told6 .given .1) refl
 
-pub reading-number-spec : {M : Type 1} → statement M
-reading-number-spec =
+pub of-reading-spec : {M : Type 1} → statement M
+of-reading-spec =
     tie.close
     (tie.spec
     enum-told

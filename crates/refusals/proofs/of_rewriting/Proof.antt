@@ -1,10 +1,10 @@
--- `file_rewriting::refusal_number` meets its contract.
+-- `refusals::of_rewriting` meets its contract.
 use mathlib.Core.Path.{refl}
 use Rattle.format.specs.Answers.{refusalNumber}
 use Rattle.format.specs.Rewriting.{rewritingIs}
 use borrow.Author.Needs.{needs}
-use Rattle.file_rewriting.proofs.refusal_number.Statement.{statement}
-use Rattle.file_rewriting.proofs.refusal_number.Tie as tie
+use Rattle.refusals.proofs.of_rewriting.Statement.{statement}
+use Rattle.refusals.proofs.of_rewriting.Tie as tie
 
 enum-told : tie.Need-enum-told
 enum-told c = search needs
@@ -69,8 +69,8 @@ returns-9 : tie.Need-returns-9
 unfolding refusalNumber rewritingIs
 returns-9 c = rw (c .enum-told9 .given .1) refl
 
-pub refusal-number-spec : {M : Type 1} → statement M
-refusal-number-spec =
+pub of-rewriting-spec : {M : Type 1} → statement M
+of-rewriting-spec =
     tie.close
     (tie.spec
     enum-told

@@ -1,9 +1,9 @@
--- `file_mending::refusal_number` meets its contract.
+-- `refusals::of_replacing` meets its contract.
 use Rattle.format.specs.Answers.{refusalNumber}
 use Rattle.format.specs.Replacing.{replacingIs}
 use borrow.Author.Needs.{needs}
-use Rattle.file_mending.proofs.refusal_number.Statement.{statement}
-use Rattle.file_mending.proofs.refusal_number.Tie as tie
+use Rattle.refusals.proofs.of_replacing.Statement.{statement}
+use Rattle.refusals.proofs.of_replacing.Tie as tie
 
 enum-told : tie.Need-enum-told
 enum-told c = search needs
@@ -75,8 +75,8 @@ returns-10 : tie.Need-returns-10
 unfolding refusalNumber replacingIs
 returns-10 c = search needs
 
-pub refusal-number-spec : {M : Type 1} → statement M
-refusal-number-spec =
+pub of-replacing-spec : {M : Type 1} → statement M
+of-replacing-spec =
     tie.close
     (tie.spec
     enum-told

@@ -1,10 +1,10 @@
--- `listing::nodes::refusal_number` meets its contract.
+-- `refusals::of_tree` meets its contract.
 use mathlib.Core.Path.{refl}
 use Rattle.format.specs.Answers.{refusalNumber}
 use Rattle.format.specs.Trees.{treeIs}
 use borrow.Author.Needs.{needs}
-use Rattle.listing.proofs.nodes.refusal_number.Statement.{statement}
-use Rattle.listing.proofs.nodes.refusal_number.Tie as tie
+use Rattle.refusals.proofs.of_tree.Statement.{statement}
+use Rattle.refusals.proofs.of_tree.Tie as tie
 
 enum-told : tie.Need-enum-told
 enum-told c = search needs
@@ -48,5 +48,5 @@ returns-6 : tie.Need-returns-6
 unfolding refusalNumber treeIs
 returns-6 c = rw (c .enum-told6 .given .1) refl
 
-pub refusal-number-spec : {M : Type 1} → statement M
-refusal-number-spec = tie.close (tie.spec enum-told enum-told-2 enum-told-3 enum-told-4 enum-told-5 enum-told-6 returns returns-2 returns-3 returns-4 returns-5 returns-6)
+pub of-tree-spec : {M : Type 1} → statement M
+of-tree-spec = tie.close (tie.spec enum-told enum-told-2 enum-told-3 enum-told-4 enum-told-5 enum-told-6 returns returns-2 returns-3 returns-4 returns-5 returns-6)
