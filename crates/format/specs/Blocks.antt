@@ -96,7 +96,7 @@ unfoldable pub bytesOf : List Line → List (List ℕ)
 bytesOf [] = []
 bytesOf (l ∷ ls) = l .bytes ∷ bytesOf ls
 
--- lines that follow each other, "joined by LF: one unbroken part of the plain text"; no lines are the part that stands emptyPart
+-- lines that follow each other, "joined by LF: one unbroken part of the plain text"; no lines are the empty part
 unfoldable pub joined : List Line → Part
 joined [] = emptyPart
 joined (l ∷ ls) = record { place = l .place; bytes = join (bytesOf (l ∷ ls)) }

@@ -67,6 +67,6 @@ pub record Part : Type 0 where
   pub place : ℕ
   pub bytes : List ℕ
 
--- the part that stands emptyPart and has no bytes
+-- the empty part: no bytes, at place 0
 abbrev pub emptyPart : Part
 emptyPart = record { place = 0; bytes = [] }

@@ -50,7 +50,7 @@ pub by-test {ℓ} : {P : Type ℓ} (b : Bool) → (b ≡ true → P) → (b ≡ 
 by-test true t f = t refl
 by-test false t f = f refl
 
--- a byte that stands emptyPart in a text
+-- a byte that stands nowhere in a text
 unfoldable pub absent : ℕ → List ℕ → Bool
 absent c [] = true
 absent c (b ∷ s) = not (eqb b c) && absent c s

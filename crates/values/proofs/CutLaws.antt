@@ -19,7 +19,7 @@ use Rattle.laws.proofs.Tokens.{first-at, after-at}
 use Rattle.values.specs.Tokens.{tokenFrom, Named, spanTo, partOf}
 use Rattle.values.proofs.NumberLaws.{is-empty-not, empty-is}
 
--- the first c stands at k, or emptyPart where k is the length
+-- the first c stands at k, or nowhere where k is the length
 module _ (c : ℕ) (x : List ℕ) (k : ℕ) (e : k ≡ length (beforeFirst c x)) where
   pub front : take k x ≡ beforeFirst c x
   unfolding beforeFirst

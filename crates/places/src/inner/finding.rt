@@ -15,7 +15,7 @@ ghost use Rattle.places.specs.Finding.{hasName, withItem, SurveyedIs};
 pub struct Found {
     // How many cues.
     pub cues: usize,
-    // From the first byte of the first line of the cue asked for up to the end of its last line; emptyPart without that cue.
+    // From the first byte of the first line of the cue asked for up to the end of its last line; 0, 0 without that cue.
     pub own: Span,
     // Has a region the name asked for.
     pub named: bool,
