@@ -10,7 +10,7 @@ fn print_answer(answer: Replacing, out: &[u8]) {
         Replacing::File(length) => {
             io::write_all(STDOUT_FILENO, part(out, 0, length));
         }
-        _ => listing::refuse(refusals::of_replacing(answer)),
+        _ => listing::refuse(answers::replacing_number(answer)),
     }
 }
 

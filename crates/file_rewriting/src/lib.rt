@@ -23,7 +23,7 @@ pub fn rewrite_file(
     }
     let answer = rewriting::rewrite(&raw[..n], text, cues, regions, styles, out);
     let Rewriting::File(length) = answer else {
-        listing::refuse(refusals::of_rewriting(answer));
+        listing::refuse(answers::rewriting_number(answer));
         return;
     };
     io::write_all(STDOUT_FILENO, part(out, 0, length));

@@ -1,9 +1,9 @@
 -- Answers as document 01 numbers them, and what lent memory holds after one.
-use Prim.Native.Nat.{ℕ}
+use Prim.Native.Nat.{ℕ, _+_}
 use mathlib.Core.Bool.{Bool, true, cond}
 use mathlib.Core.List.{List, [], _∷_, _++_}
 use lib.Dec.{ltb}
-use lib.ListN.{length, drop}
+use lib.ListN.{length, drop, set}
 use Rattle.format.specs.Limits.{maxFile}
 use Rattle.format.specs.Texts.{has}
 
@@ -27,6 +27,11 @@ unfoldable pub refusalNumber : Answer → ℕ
 refusalNumber (accepted vs) = 0
 refusalNumber (refused number vs) = number
 
+-- what is returned with an answer
+unfoldable pub returned : Answer → List ℕ
+returned (accepted vs) = vs
+returned (refused number vs) = vs
+
 -- the next answer where this one accepts
 unfoldable pub andThen : Answer → Answer → Answer
 andThen answer next = ifAccepted answer next answer
@@ -45,3 +50,8 @@ fileAnswer file room =
 -- or a lent table with rows at its start
 unfoldable pub placed {ℓ} : {A : Type ℓ} → List A → List A → List A
 placed text room = text ++ drop (length text) room
+
+-- lent words with values from place i on, one after the other; the others as they were
+unfoldable pub withValues : ℕ → List ℕ → List ℕ → List ℕ
+withValues i [] words = words
+withValues i (v ∷ vs) words = withValues (i + 1) vs (set words i v)

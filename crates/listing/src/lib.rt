@@ -59,7 +59,7 @@ fn show_text(
         styles: s,
     } = answer
     else {
-        return refusals::of_reading(answer);
+        return answers::reading_number(answer);
     };
     style_lines::print_all(text, styles, s);
     region_lines::print_all(text, regions, r);

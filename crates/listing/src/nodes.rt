@@ -16,7 +16,7 @@ pub(crate) fn show(text: &[u8], room: &mut [u8], nodes: &mut [NodeRow]) -> u64
 {
     let answer = markup::tree(text, room, nodes);
     let Tree::Nodes { count, used: _ } = answer else {
-        return refusals::of_tree(answer);
+        return answers::tree_number(answer);
     };
     node_lines::print_all(room, nodes, count);
     0

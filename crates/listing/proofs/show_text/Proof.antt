@@ -12,8 +12,8 @@ read-requires c κs = search needs
 enum-known-answer : tie.Need-enum-known-answer
 enum-known-answer c = search needs
 
-of-reading-requires : tie.Need-of-reading-requires
-of-reading-requires c κs = search needs
+reading-number-requires : tie.Need-reading-number-requires
+reading-number-requires c κs = search needs
 
 same-length : tie.Need-same-length
 same-length c = search needs
@@ -27,7 +27,7 @@ same-length-3 c = search needs
 returns : tie.Need-returns
 returns c =
     let told = c .before .before .before .before .before .read .ensures in
-    rw (← (told .0)) (c .of-reading .ensures, (told .1 .0, (told .1 .1 .0, told .1 .1 .1)))
+    rw (← (told .0)) (c .reading-number .ensures, (told .1 .0, (told .1 .1 .0, told .1 .1 .1)))
 
 print-all-requires : tie.Need-print-all-requires
 print-all-requires c κs = search needs
@@ -60,7 +60,7 @@ show-text-spec =
     (tie.spec
     read-requires
     enum-known-answer
-    of-reading-requires
+    reading-number-requires
     same-length
     same-length-2
     same-length-3

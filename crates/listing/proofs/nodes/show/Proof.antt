@@ -12,8 +12,8 @@ tree-requires c κs = search needs
 enum-known-answer : tie.Need-enum-known-answer
 enum-known-answer c = search needs
 
-of-tree-requires : tie.Need-of-tree-requires
-of-tree-requires c κs = search needs
+tree-number-requires : tie.Need-tree-number-requires
+tree-number-requires c κs = search needs
 
 same-length : tie.Need-same-length
 same-length c = search needs
@@ -24,7 +24,7 @@ same-length-2 c = search needs
 returns : tie.Need-returns
 returns c =
     let told = c .before .before .before .before .before .tree .ensures in
-    (rw (← (told .0)) (c .of-tree .ensures), (told .1 .0, told .1 .1 .0))
+    (rw (← (told .0)) (c .tree-number .ensures), (told .1 .0, told .1 .1 .0))
 
 print-all-requires : tie.Need-print-all-requires
 print-all-requires c κs = search needs
@@ -48,7 +48,7 @@ show-spec =
     (tie.spec
     tree-requires
     enum-known-answer
-    of-tree-requires
+    tree-number-requires
     same-length
     same-length-2
     returns
