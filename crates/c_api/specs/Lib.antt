@@ -1,0 +1,2 @@
+-- What the contracts of this crate's functions say beyond `format`.
+pub mod Lent

@@ -1,0 +1,212 @@
+// The library's functions for callers in C and other languages: over numbers and slices alone. Each hands back document 01's number, 0 where it
+// accepts, and puts the values that go with the answer at the start of `values`, whose other words stay. What is promised is what the
+// library's own function promises.
+use format::PartAnswer;
+use format::rows::CueRow;
+use format::rows::NEW_CUE_WORDS;
+use format::rows::NewCueRow;
+use format::rows::NodeRow;
+use format::rows::RegionRow;
+use format::rows::StyleRow;
+ghost use mathlib.Core.Path.{_≡_};
+ghost use lib.ListN.{length};
+ghost use Rattle.format.specs.Plain.{plainText};
+ghost use Rattle.format.specs.Lists.{lists};
+ghost use Rattle.format.specs.Rows.{cueRows, regionRows, styleRows};
+ghost use Rattle.format.specs.Answers.{refusalNumber, returned, withValues};
+ghost use Rattle.format.specs.Converting.{converting, convertedRoom, testing};
+ghost use Rattle.format.specs.Reading.{reading, afterReading};
+ghost use Rattle.format.specs.Trees.{treeing, treeRoom, treeTable};
+ghost use Rattle.format.specs.Writing.{writing, writtenRoom};
+ghost use Rattle.format.specs.Rewriting.{lengths, readingIn, rewriting, rewrittenRoom};
+ghost use Rattle.format.specs.Replacing.{replacing, replacedRoom};
+ghost use Rattle.format.specs.Parts.{asking};
+ghost use Rattle.c_api.specs.Lent.{lentWords, placeTold, entryAt};
+
+// The plain text of a raw file goes to `room`. Values: its length; for 2 the length needed.
+#[no_mangle]
+pub extern "C" fn spatz_convert(raw: &[u8], room: &mut [u8], values: &mut [u64; 8]) -> u64
+    ensures number { λ r. ⌜ r ≡ refusalNumber (converting (now (raw .entry)) (length (now (room .entry)))) ⌝ }
+    ensures room { λ _. ⌜ now (room .exit) ≡ convertedRoom (now (raw .entry)) (now (room .entry)) ⌝ }
+    ensures values { λ _. ⌜ now (values .exit) ≡ withValues 0 (returned (converting (now (raw .entry)) (length (now (room .entry))))) (now (values .entry)) ⌝ }
+{
+    answers::converted(plain::convert(raw, room), values)
+}
+
+// Is a text plain. Values: for 3 the first place that is not.
+#[no_mangle]
+pub extern "C" fn spatz_first_not_plain(text: &[u8], values: &mut [u64; 8]) -> u64
+    ensures number { λ r. ⌜ r ≡ refusalNumber (testing (now (text .entry))) ⌝ }
+    ensures values { λ _. ⌜ now (values .exit) ≡ withValues 0 (returned (testing (now (text .entry)))) (now (values .entry)) ⌝ }
+{
+    answers::plainness(plain::first_not_plain(text), values)
+}
+
+// The lists of a plain text go to the tables. Values: the counts of cues, regions and styles, for 6 too; for 3 the first place that is not plain.
+#[no_mangle]
+pub extern "C" fn spatz_read(
+    text: &[u8],
+    cues: &mut [CueRow],
+    regions: &mut [RegionRow],
+    styles: &mut [StyleRow],
+    values: &mut [u64; 8],
+) -> u64
+    ensures number { λ r. ⌜ r ≡ refusalNumber (reading (now (text .entry)) (length (now (cues .entry))) (length (now (regions .entry))) (length (now (styles .entry)))) ⌝ }
+    ensures cues { λ _. ⌜ now (cues .exit) ≡ afterReading (reading (now (text .entry)) (length (now (cues .entry))) (length (now (regions .entry))) (length (now (styles .entry)))) (cueRows (lists (now (text .entry)) .regions) (lists (now (text .entry)) .cues)) (now (cues .entry)) ⌝ }
+    ensures regions { λ _. ⌜ now (regions .exit) ≡ afterReading (reading (now (text .entry)) (length (now (cues .entry))) (length (now (regions .entry))) (length (now (styles .entry)))) (regionRows (lists (now (text .entry)) .regions)) (now (regions .entry)) ⌝ }
+    ensures styles { λ _. ⌜ now (styles .exit) ≡ afterReading (reading (now (text .entry)) (length (now (cues .entry))) (length (now (regions .entry))) (length (now (styles .entry)))) (styleRows (lists (now (text .entry)) .styles)) (now (styles .entry)) ⌝ }
+    ensures values { λ _. ⌜ now (values .exit) ≡ withValues 0 (returned (reading (now (text .entry)) (length (now (cues .entry))) (length (now (regions .entry))) (length (now (styles .entry))))) (now (values .entry)) ⌝ }
+{
+    answers::reading(reader::read(text, cues, regions, styles), values)
+}
+
+// The nodes of one cue's text go to the table, their strings to `room`. Values: rows and bytes used; for 2 the bytes, for 6 the rows needed.
+#[no_mangle]
+pub extern "C" fn spatz_tree(
+    text: &[u8],
+    room: &mut [u8],
+    nodes: &mut [NodeRow],
+    values: &mut [u64; 8],
+) -> u64
+    ensures number { λ r. ⌜ r ≡ refusalNumber (treeing (now (text .entry)) (length (now (room .entry))) (length (now (nodes .entry)))) ⌝ }
+    ensures room { λ _. ⌜ now (room .exit) ≡ treeRoom (now (text .entry)) (now (room .entry)) (length (now (nodes .entry))) ⌝ }
+    ensures nodes { λ _. ⌜ now (nodes .exit) ≡ treeTable (now (text .entry)) (length (now (room .entry))) (now (nodes .entry)) ⌝ }
+    ensures values { λ _. ⌜ now (values .exit) ≡ withValues 0 (returned (treeing (now (text .entry)) (length (now (room .entry))) (length (now (nodes .entry))))) (now (values .entry)) ⌝ }
+{
+    answers::tree(markup::tree(text, room, nodes), values)
+}
+
+// The file that has the lists of these rows over a text goes to `out`. Values: its length; for 8 list, index, test; for 10 the length needed.
+#[no_mangle]
+pub extern "C" fn spatz_write(
+    text: &[u8],
+    styles: &[StyleRow],
+    regions: &[RegionRow],
+    cues: &[CueRow],
+    out: &mut [u8],
+    values: &mut [u64; 8],
+) -> u64
+    ensures number { λ r. ⌜ r ≡ refusalNumber (writing (now (text .entry)) (now (styles .entry)) (now (regions .entry)) (now (cues .entry)) (length (now (out .entry)))) ⌝ }
+    ensures out { λ _. ⌜ now (out .exit) ≡ writtenRoom (now (text .entry)) (now (styles .entry)) (now (regions .entry)) (now (cues .entry)) (now (out .entry)) ⌝ }
+    ensures values { λ _. ⌜ now (values .exit) ≡ withValues 0 (returned (writing (now (text .entry)) (now (styles .entry)) (now (regions .entry)) (now (cues .entry)) (length (now (out .entry))))) (now (values .entry)) ⌝ }
+{
+    answers::writing(writer::write(text, styles, regions, cues, out), values)
+}
+
+// A raw file converted, read and written again to `out`, text room and tables being scratch. Values: its length; for 2, 6, 8, 10 as above.
+#[no_mangle]
+pub extern "C" fn spatz_rewrite(
+    raw: &[u8],
+    text: &mut [u8],
+    cues: &mut [CueRow],
+    regions: &mut [RegionRow],
+    styles: &mut [StyleRow],
+    out: &mut [u8],
+    values: &mut [u64; 8],
+) -> u64
+    ensures number { λ r. ⌜ r ≡ refusalNumber (rewriting (now (raw .entry)) (lengths (now (text .entry)) (now (cues .entry)) (now (regions .entry)) (now (styles .entry)) (now (out .entry)))) ⌝ }
+    ensures text { λ _. ⌜ now (text .exit) ≡ convertedRoom (now (raw .entry)) (now (text .entry)) ⌝ }
+    ensures cues { λ _. ⌜ now (cues .exit) ≡ afterReading (readingIn (now (raw .entry)) (lengths (now (text .entry)) (now (cues .entry)) (now (regions .entry)) (now (styles .entry)) (now (out .entry)))) (cueRows (lists (plainText (now (raw .entry))) .regions) (lists (plainText (now (raw .entry))) .cues)) (now (cues .entry)) ⌝ }
+    ensures regions { λ _. ⌜ now (regions .exit) ≡ afterReading (readingIn (now (raw .entry)) (lengths (now (text .entry)) (now (cues .entry)) (now (regions .entry)) (now (styles .entry)) (now (out .entry)))) (regionRows (lists (plainText (now (raw .entry))) .regions)) (now (regions .entry)) ⌝ }
+    ensures styles { λ _. ⌜ now (styles .exit) ≡ afterReading (readingIn (now (raw .entry)) (lengths (now (text .entry)) (now (cues .entry)) (now (regions .entry)) (now (styles .entry)) (now (out .entry)))) (styleRows (lists (plainText (now (raw .entry))) .styles)) (now (styles .entry)) ⌝ }
+    ensures out { λ _. ⌜ now (out .exit) ≡ rewrittenRoom (now (raw .entry)) (lengths (now (text .entry)) (now (cues .entry)) (now (regions .entry)) (now (styles .entry)) (now (out .entry))) (now (out .entry)) ⌝ }
+    ensures values { λ _. ⌜ now (values .exit) ≡ withValues 0 (returned (rewriting (now (raw .entry)) (lengths (now (text .entry)) (now (cues .entry)) (now (regions .entry)) (now (styles .entry)) (now (out .entry))))) (now (values .entry)) ⌝ }
+{
+    answers::rewriting(
+        rewriting::rewrite(raw, text, cues, regions, styles, out),
+        values,
+    )
+}
+
+// The row of a new cue that is lent as words. Words of another count are taken for a row that fails test 1.
+fn lent_row(row: &[u64]) -> NewCueRow
+    ensures { λ r. ⌜ r ≡ lentWords (now (row .entry)) ⌝ }
+{
+    if row.len() != NEW_CUE_WORDS {
+        return [u64::MAX; NEW_CUE_WORDS];
+    }
+    [
+        row[0],
+        row[1],
+        row[2],
+        row[3],
+        row[4],
+        row[5],
+        row[6],
+        row[7],
+        row[8],
+        row[9],
+        row[10],
+        row[11],
+        row[12],
+        row[13],
+        row[14],
+        row[15],
+        row[16],
+        row[17],
+    ]
+}
+
+// The raw file with one cue replaced goes to `out`, the old file's plain text to `scratch`. The new cue is a row of 18 words over a text; another
+// count of words fails test 1. Values: the new file's length; for 2 and 10 the length needed; for 7 the count; for 8 list, cue number, test.
+#[no_mangle]
+pub extern "C" fn spatz_replace(
+    raw: &[u8],
+    number: usize,
+    row: &[u64],
+    text: &[u8],
+    scratch: &mut [u8],
+    out: &mut [u8],
+    values: &mut [u64; 8],
+) -> u64
+    ensures number { λ r. ⌜ r ≡ refusalNumber (replacing (now (raw .entry)) number (now (text .entry)) (lentWords (now (row .entry))) (length (now (scratch .entry))) (length (now (out .entry)))) ⌝ }
+    ensures scratch { λ _. ⌜ now (scratch .exit) ≡ convertedRoom (now (raw .entry)) (now (scratch .entry)) ⌝ }
+    ensures out { λ _. ⌜ now (out .exit) ≡ replacedRoom (now (raw .entry)) number (now (text .entry)) (lentWords (now (row .entry))) (length (now (scratch .entry))) (now (out .entry)) ⌝ }
+    ensures values { λ _. ⌜ now (values .exit) ≡ withValues 0 (returned (replacing (now (raw .entry)) number (now (text .entry)) (lentWords (now (row .entry))) (length (now (scratch .entry))) (length (now (out .entry))))) (now (values .entry)) ⌝ }
+{
+    let lent = lent_row(row);
+    answers::replacing(
+        replace::replace_cue(raw, number, lent, text, scratch, out),
+        values,
+    )
+}
+
+// Where the identifier of a cue stands. Values: from, to; for 7 the count; for 8 list, cue number, test.
+#[no_mangle]
+pub extern "C" fn spatz_identifier(
+    text: &[u8],
+    cues: &[CueRow],
+    number: usize,
+    values: &mut [u64; 8],
+) -> u64
+    ensures number { λ r. ⌜ r ≡ refusalNumber (asking (now (text .entry)) (now (cues .entry)) number) ⌝ }
+    ensures values { λ _. ⌜ now (values .exit) ≡ withValues 0 (placeTold (now (text .entry)) (now (cues .entry)) number (entryAt (now (cues .entry)) number .id)) (now (values .entry)) ⌝ }
+{
+    let answer = parts::ask(text, cues, number);
+    let PartAnswer::Part = answer else {
+        return answers::part(answer, values);
+    };
+    let place = rows::cues::id(cues[number]);
+    answers::put_2(values, place.from, place.to);
+    0
+}
+
+// Where the text of a cue stands. Values as for the identifier.
+#[no_mangle]
+pub extern "C" fn spatz_text(
+    text: &[u8],
+    cues: &[CueRow],
+    number: usize,
+    values: &mut [u64; 8],
+) -> u64
+    ensures number { λ r. ⌜ r ≡ refusalNumber (asking (now (text .entry)) (now (cues .entry)) number) ⌝ }
+    ensures values { λ _. ⌜ now (values .exit) ≡ withValues 0 (placeTold (now (text .entry)) (now (cues .entry)) number (entryAt (now (cues .entry)) number .text)) (now (values .entry)) ⌝ }
+{
+    let answer = parts::ask(text, cues, number);
+    let PartAnswer::Part = answer else {
+        return answers::part(answer, values);
+    };
+    let place = rows::cues::text(cues[number]);
+    answers::put_2(values, place.from, place.to);
+    0
+}
