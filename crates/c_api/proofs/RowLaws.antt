@@ -1,18 +1,16 @@
--- A row of 18 words is its words one after the other; what a lent row and a part that is handed back say.
-use Prim.Native.Nat.{ℕ, _<_}
+-- A row of 18 words is its words one after the other; what a lent row and a refused part say.
+use Prim.Native.Nat.{ℕ}
 use mathlib.Core.Path.{_≡_, refl, ap, _∙_}
 use mathlib.Core.Bool.{false}
 use mathlib.Core.List.{List, [], _∷_}
 use native.Mathlib.Omega.{arith}
 use lib.ListN.{length, getD, drop, drop-of-length-le}
 use lib.Seq.{drop-cons}
-use lib.Dec.{ltb}
-use borrow.Author.Tests.{ltb-true}
 use mathlib.Core.Logic.{⊎-elim}
 use types.Run.{OneOf}
 use denote.Enum.Declared.{tagOf}
-use Rattle.format.specs.Answers.{Answer, accepted, refused, ifAccepted, returned}
-use Rattle.format.specs.Parts.{partAnswerIs, asking}
+use Rattle.format.specs.Answers.{refused, ifAccepted, returned}
+use Rattle.format.specs.Parts.{partAnswerIs}
 use Rattle.format.proofs.PartAnswer.{the-type}
 use Rattle.format.specs.declared.PartAnswer.{PartAnswer}
 use Rattle.format.specs.declared.PartAnswer.the-variants as PartAnswer
@@ -66,15 +64,6 @@ listed w e =
 pub unnamed-fails : (t : List ℕ) → newTest1 t unnamed ≡ false
 unfolding newTest1 cueTest1 cueCodesNamed
 unnamed-fails t = by-test (partPlain t most most) (λ y. rw y refl) (λ n. rw n refl)
-
--- a cue whose part is handed back is there
-pub is-there : (s : List ℕ) (cues : List (List ℕ)) (number : ℕ) → accepted [] ≡ asking s cues number → number < length cues
-unfolding asking
-is-there s cues number e =
-    by-test (ltb number (length cues)) (λ y. ltb-true number (length cues) y) (λ n.
-    let f : _≡_ {A = Answer} (accepted []) (refused 7 (length cues ∷ [])) = rw n at e in
-    let z : _≡_ {A = ℕ} 0 1 = cc in
-    absurd (omega arith))
 
 -- where a part is refused, what is returned with the refusal is told
 pub told-refused :

@@ -4,8 +4,7 @@ use mathlib.Core.Bool.{cond}
 use mathlib.Core.List.{List, [], _∷_}
 use lib.Dec.{eqb}
 use lib.ListN.{length, getD}
-use Rattle.format.specs.Answers.{ifAccepted, returned}
-use Rattle.format.specs.Parts.{asking}
+use Rattle.format.specs.Answers.{Answer, ifAccepted, returned}
 use Rattle.format.specs.Rows.{cueEntry}
 use Rattle.format.specs.declared.rows.CueEntry.{CueEntry}
 use Rattle.format.specs.declared.settings.Span.{Span}
@@ -23,9 +22,9 @@ unnamed =
 unfoldable pub lentWords : List ℕ → List ℕ
 lentWords w = cond (eqb (length w) 18) w unnamed
 
--- the values told with a part: from which place up to which it stands, or what is returned with the refusal
-unfoldable pub placeTold : List ℕ → List (List ℕ) → ℕ → Span → List ℕ
-placeTold s cues number p = ifAccepted (asking s cues number) (p .from ∷ p .to ∷ []) (returned (asking s cues number))
+-- the values told with a part that stands at a place: from and to, or what is returned with the refusal
+unfoldable pub placeTold : Answer → Span → List ℕ
+placeTold answer p = ifAccepted answer (p .from ∷ p .to ∷ []) (returned answer)
 
 -- the entry of the cue with a number
 abbrev pub entryAt : List (List ℕ) → ℕ → CueEntry

@@ -2,17 +2,19 @@
 // accepts, and puts the values that go with the answer at the start of `values`, whose other words stay. What is promised is what the
 // library's own function promises.
 use format::PartAnswer;
+use format::rows::CUE_WORDS;
 use format::rows::CueRow;
 use format::rows::NEW_CUE_WORDS;
 use format::rows::NewCueRow;
 use format::rows::NodeRow;
 use format::rows::RegionRow;
 use format::rows::StyleRow;
+use format::settings::Span;
 ghost use mathlib.Core.Path.{_≡_};
 ghost use lib.ListN.{length};
 ghost use Rattle.format.specs.Plain.{plainText};
 ghost use Rattle.format.specs.Lists.{lists};
-ghost use Rattle.format.specs.Rows.{cueRows, regionRows, styleRows};
+ghost use Rattle.format.specs.Rows.{cueRows, regionRows, styleRows, cueEntry};
 ghost use Rattle.format.specs.Answers.{refusalNumber, returned, withValues};
 ghost use Rattle.format.specs.Converting.{converting, convertedRoom, testing};
 ghost use Rattle.format.specs.Reading.{reading, afterReading};
@@ -20,7 +22,7 @@ ghost use Rattle.format.specs.Trees.{treeing, treeRoom, treeTable};
 ghost use Rattle.format.specs.Writing.{writing, writtenRoom};
 ghost use Rattle.format.specs.Rewriting.{lengths, readingIn, rewriting, rewrittenRoom};
 ghost use Rattle.format.specs.Replacing.{replacing, replacedRoom};
-ghost use Rattle.format.specs.Parts.{asking};
+ghost use Rattle.format.specs.Parts.{partAnswerIs, asking};
 ghost use Rattle.c_api.specs.Lent.{lentWords, placeTold, entryAt};
 
 // The plain text of a raw file goes to `room`. Values: its length; for 2 the length needed.
@@ -171,6 +173,28 @@ pub extern "C" fn spatz_replace(
     )
 }
 
+// The row with this number; where there is none, one that says what no row says.
+fn row_at(cues: &[CueRow], number: usize) -> CueRow
+    ensures { λ r. ⌜ cueEntry r ≡ entryAt (now (cues .entry)) number ⌝ }
+{
+    if number < cues.len() {
+        return cues[number];
+    }
+    [0; CUE_WORDS]
+}
+
+// What asking for a part answers, the part standing at this place.
+fn tell_place(answer: PartAnswer, place: Span, values: &mut [u64; 8]) -> u64
+    ensures number { λ r. ⌜ r ≡ refusalNumber (partAnswerIs answer) ⌝ }
+    ensures values { λ _. ⌜ now (values .exit) ≡ withValues 0 (placeTold (partAnswerIs answer) place) (now (values .entry)) ⌝ }
+{
+    let PartAnswer::Part = answer else {
+        return answers::part(answer, values);
+    };
+    answers::put_2(values, place.from, place.to);
+    0
+}
+
 // Where the identifier of a cue stands. Values: from, to; for 7 the count; for 8 list, cue number, test.
 #[no_mangle]
 pub extern "C" fn spatz_identifier(
@@ -180,15 +204,10 @@ pub extern "C" fn spatz_identifier(
     values: &mut [u64; 8],
 ) -> u64
     ensures number { λ r. ⌜ r ≡ refusalNumber (asking (now (text .entry)) (now (cues .entry)) number) ⌝ }
-    ensures values { λ _. ⌜ now (values .exit) ≡ withValues 0 (placeTold (now (text .entry)) (now (cues .entry)) number (entryAt (now (cues .entry)) number .id)) (now (values .entry)) ⌝ }
+    ensures values { λ _. ⌜ now (values .exit) ≡ withValues 0 (placeTold (asking (now (text .entry)) (now (cues .entry)) number) (entryAt (now (cues .entry)) number .id)) (now (values .entry)) ⌝ }
 {
-    let answer = parts::ask(text, cues, number);
-    let PartAnswer::Part = answer else {
-        return answers::part(answer, values);
-    };
-    let place = rows::cues::id(cues[number]);
-    answers::put_2(values, place.from, place.to);
-    0
+    let place = rows::cues::id(row_at(cues, number));
+    tell_place(parts::ask(text, cues, number), place, values)
 }
 
 // Where the text of a cue stands. Values as for the identifier.
@@ -200,13 +219,8 @@ pub extern "C" fn spatz_text(
     values: &mut [u64; 8],
 ) -> u64
     ensures number { λ r. ⌜ r ≡ refusalNumber (asking (now (text .entry)) (now (cues .entry)) number) ⌝ }
-    ensures values { λ _. ⌜ now (values .exit) ≡ withValues 0 (placeTold (now (text .entry)) (now (cues .entry)) number (entryAt (now (cues .entry)) number .text)) (now (values .entry)) ⌝ }
+    ensures values { λ _. ⌜ now (values .exit) ≡ withValues 0 (placeTold (asking (now (text .entry)) (now (cues .entry)) number) (entryAt (now (cues .entry)) number .text)) (now (values .entry)) ⌝ }
 {
-    let answer = parts::ask(text, cues, number);
-    let PartAnswer::Part = answer else {
-        return answers::part(answer, values);
-    };
-    let place = rows::cues::text(cues[number]);
-    answers::put_2(values, place.from, place.to);
-    0
+    let place = rows::cues::text(row_at(cues, number));
+    tell_place(parts::ask(text, cues, number), place, values)
 }
