@@ -1,4 +1,5 @@
--- Fields of a line, parted by tabs: numbers in decimal digits, and texts with escapes, in which neither tab nor LF stands.
+-- Fields of a line, parted by tabs: numbers in decimal digits, and texts with escapes, in which neither tab nor LF stands. What is quoted is
+-- README's, of the request line of `mend`.
 use Prim.Native.Nat.{ℕ}
 use mathlib.Core.Bool.{Bool, false, cond, not, _&&_}
 use mathlib.Core.List.{List, [], _∷_}
@@ -14,12 +15,12 @@ use Rattle.format.specs.Numbers.{number, someDigits}
 abbrev pub fields : List ℕ → List (List ℕ)
 fields = splitAt tab
 
--- "decimals of 1 to 12 digits without leading zeros"
+-- "A number has 1 to 12 digits and no leading zero."
 unfoldable pub fieldNumber : List ℕ → Option ℕ
 fieldNumber f =
     cond (someDigits f && not (ltb 12 (length f)) && not (startsWith (ascii "0") f && ltb 1 (length f))) (some (number f)) none
 
--- "`\\`, `\t`, `\n` stand for backslash, tab and LF and no other escape is allowed": what a byte stands for after a backslash
+-- "`\\`, `\t`, `\n` stand for backslash, tab and LF; no other escape is allowed": what a byte stands for after a backslash
 unfoldable pub escapes : ℕ → Option ℕ
 escapes b =
     cond (eqb b backslash) (some backslash) (cond (eqb b 0x74) (some tab) (cond (eqb b 0x6E) (some lf) none))

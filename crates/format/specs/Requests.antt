@@ -1,4 +1,4 @@
--- The request line of `mend`, and what mending answers: `mend`, the cue's number, its start, end, identifier, settings and text.
+-- The request line of `mend`, and what mending answers. What is quoted is README's, of that line.
 use Prim.Native.Nat.{ℕ, _+_}
 use mathlib.Core.Bool.{Bool, cond, not, _&&_, _||_}
 use mathlib.Core.List.{List, [], _∷_, _++_}
@@ -32,11 +32,11 @@ pub record Request : Type 0 where
   pub settings : Settings
   pub region : List ℕ
 
--- "settings are read as the rest of a timing line is"
+-- "Settings are written as in a timing line"
 unfoldable pub settingsField : List ℕ → Flagged CueSettings
 settingsField f = cueSettings (record { place = 0; bytes = f })
 
--- the request of these numbers, texts and settings; none "where the line is not so or its settings hold a number over its limit"
+-- the request of these numbers, texts and settings; none "Where the line is not so, or its settings hold a line number above 999,999"
 unfoldable pub requestWith : Option ℕ → Option ℕ → Option ℕ → Option (List ℕ) → Flagged CueSettings → Option (List ℕ) → Option Request
 requestWith number start end id taken text =
     bind number (λ n.
@@ -62,12 +62,12 @@ requestOf fs =
     (settingsField (getD fs 5 []))
     (unescaped (getD fs 6 []))
 
--- "`mend`, tab, cue number, tab, start, tab, end, tab, identifier, tab, settings, tab, text"
+-- "seven fields, parted by tabs": "`mend`, the cue's number, start, end, identifier, settings, text"
 unfoldable pub request : List ℕ → Option Request
 request line =
     cond (eqb (length (fields line)) 7 && same (getD (fields line) 0 []) (ascii "mend")) (requestOf (fields line)) none
 
--- the request at an input's start: "The request line has at most 4,096 bytes without its LF"
+-- the request at an input's start: it "ends with LF" and "may have 4,096 bytes without its LF"
 unfoldable pub asked : List ℕ → Option Request
 asked input =
     cond (has lf input && not (ltb maxRequest (length (beforeFirst lf input)))) (request (beforeFirst lf input)) none
@@ -101,7 +101,8 @@ mendingIs (Mending.Asked answer) = some (replacingIs answer)
 unfoldable pub tooLong : List ℕ → Bool → Bool
 tooLong raw longer = longer || ltb maxMended (length raw)
 
--- what a request answers in a raw file, scratch room and output room having these lengths: 1 "where there is more input", else what replacing answers
+-- what a request answers in a raw file, scratch room and output room having these lengths: "a longer file is refused by 1",
+-- else what replacing answers
 unfoldable pub mendingWith : List ℕ → Bool → ℕ → ℕ → Request → Answer
 mendingWith raw longer scratch out q =
     cond (tooLong raw longer) (refused 1 []) (replacing raw (q .number) (lentText q) (lentRow q) scratch out)
