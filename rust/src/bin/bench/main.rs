@@ -1,0 +1,174 @@
+//! Measures the proved functions and prints the tables of docs/SPEED.md. Every time is a ratio to a bare scan of the same bytes for LF and
+//! `-->` in the same run, the best of some runs: `cargo run --release --bin bench`, with words of a table's title to choose tables.
+mod samples;
+
+use spatzenherd::lent::{self, CueRow, RegionRow, StyleRow};
+use spatzenherd::MAX_FILE;
+use std::hint::black_box;
+use std::time::Instant;
+
+/// Counts line ends and arrows, byte by byte: what any reader must look at. It stands on its own so that it is compiled in one way.
+#[inline(never)]
+fn scan(bytes: &[u8]) -> usize {
+    let mut found = 0;
+    for (i, &byte) in bytes.iter().enumerate() {
+        if byte == b'\n' {
+            found += 1
+        }
+        if byte == b'>' && i >= 2 && bytes[i - 1] == b'-' && bytes[i - 2] == b'-' {
+            found += 1
+        }
+    }
+    found
+}
+
+/// Seconds that a call takes: the best of five runs, each of as many calls as take some hundredths of a second.
+fn seconds(mut call: impl FnMut()) -> f64 {
+    let mut once = || {
+        let start = Instant::now();
+        call();
+        start.elapsed().as_secs_f64()
+    };
+    let first = once();
+    let calls = (0.02 / first.max(1e-9)).ceil().clamp(1.0, 100_000.0) as usize;
+    let runs = if first > 2.0 { 1 } else { 5 };
+    let mean = |once: &mut dyn FnMut() -> f64| (0..calls).map(|_| once()).sum::<f64>() / calls as f64;
+    (0..runs).map(|_| mean(&mut once)).fold(first, f64::min)
+}
+
+/// The lists of a text with the memory that reading it takes.
+struct Read {
+    text: Vec<u8>,
+    cues: Vec<CueRow>,
+    regions: Vec<RegionRow>,
+    styles: Vec<StyleRow>,
+}
+
+impl Read {
+    fn of(raw: &[u8]) -> Read {
+        let mut values = [0; 8];
+        let mut text = vec![0; 3 * raw.len()];
+        assert_eq!(lent::convert(raw, &mut text, &mut values), 0);
+        text.truncate(values[0] as usize);
+        if lent::read(&text, &mut [], &mut [], &mut [], &mut values) == 0 {
+            values = [0; 8];
+        }
+        let [cues, regions, styles, ..] = values.map(|count| count as usize);
+        Read { text, cues: vec![[0; 17]; cues], regions: vec![[0; 9]; regions], styles: vec![[0; 2]; styles] }
+    }
+
+    fn read(&mut self) -> u64 {
+        lent::read(&self.text, &mut self.cues, &mut self.regions, &mut self.styles, &mut [0; 8])
+    }
+}
+
+/// One row of a table: the scan's speed, then each time as a ratio to the scan's, with its speed.
+fn row(name: &str, bytes: usize, scanned: f64, times: &[f64]) {
+    let speed = |t: f64| bytes as f64 / t / 1e6;
+    print!("| {name} | {:.0} |", speed(scanned));
+    for &time in times {
+        print!(" {:.1} ({:.0}) |", time / scanned, speed(time));
+    }
+    println!();
+}
+
+fn heading(title: &str, columns: &[&str]) {
+    println!("\n{title}: times the scan's time (MB/s)\n");
+    println!("| | scan, MB/s | {} |", columns.join(" | "));
+    println!("|---|---:|{}", "---:|".repeat(columns.len()));
+}
+
+/// Seconds for replacing the cue of a number by one like it.
+fn replacing(raw: &[u8], number: usize) -> f64 {
+    let text = b"Replaced.";
+    let mut row = [0; 18];
+    (row[2], row[3], row[5], row[14], row[15]) = (1000, 2000, text.len() as u64, 100_000_000, 1);
+    let (mut scratch, mut out) = (vec![0; 3 * raw.len()], vec![0; raw.len() + 100]);
+    seconds(|| assert_eq!(lent::replace(raw, number, &row, text, &mut scratch, &mut out, &mut [0; 8]), 0))
+}
+
+fn episodes() {
+    let columns = ["convert", "read", "convert and read", "write", "replace first", "replace middle", "replace last", "trees of all cues"];
+    heading("Episodes", &columns);
+    for (name, length, line_end) in [
+        ("50 KB, LF", 50_000, "\n"),
+        ("1 MB, LF", 1_000_000, "\n"),
+        ("1 MB, CR LF", 1_000_000, "\r\n"),
+        ("12 MB, LF", 12_000_000, "\n"),
+        ("12 MB, CR LF", 12_000_000, "\r\n"),
+    ] {
+        episode(name, &samples::episode(length, line_end));
+    }
+}
+
+fn episode(name: &str, raw: &[u8]) {
+    let scanned = seconds(|| {
+        black_box(scan(black_box(raw)));
+    });
+    let mut file = Read::of(raw);
+    let mut room = vec![0; 3 * raw.len()];
+    let convert = seconds(|| assert_eq!(lent::convert(raw, &mut room, &mut [0; 8]), 0));
+    let read = seconds(|| assert_eq!(file.read(), 0));
+    let both = seconds(|| {
+        assert_eq!(lent::convert(raw, &mut room, &mut [0; 8]), 0);
+        assert_eq!(file.read(), 0);
+    });
+    let mut out = vec![0; MAX_FILE];
+    let write = seconds(|| assert_eq!(lent::write(&file.text, &file.styles, &file.regions, &file.cues, &mut out, &mut [0; 8]), 0));
+    let last = file.cues.len() - 1;
+    let replace = [0, last / 2, last].map(|number| replacing(raw, number));
+    let mut nodes = vec![[0; 7]; 1000];
+    let trees = seconds(|| {
+        for cue in &file.cues {
+            let text = &file.text[cue[4] as usize..cue[5] as usize];
+            assert_eq!(lent::tree(text, &mut room, &mut nodes, &mut [0; 8]), 0);
+        }
+    });
+    let texts: u64 = file.cues.iter().map(|cue| cue[5] - cue[4]).sum();
+    let trees = trees * raw.len() as f64 / texts as f64;
+    row(name, raw.len(), scanned, &[convert, read, both, write, replace[0], replace[1], replace[2], trees]);
+}
+
+fn worst() {
+    heading("Worst cases of a file", &["convert", "read"]);
+    for (name, raw) in samples::worst() {
+        let scanned = seconds(|| {
+            black_box(scan(black_box(&raw)));
+        });
+        let mut room = vec![0; 3 * raw.len()];
+        let convert = seconds(|| assert_eq!(lent::convert(&raw, &mut room, &mut [0; 8]), 0));
+        let mut file = Read::of(&raw);
+        let read = seconds(|| {
+            black_box(file.read());
+        });
+        row(name, raw.len(), scanned, &[convert, read]);
+    }
+}
+
+fn worst_texts() {
+    heading("Worst cases of a cue's text", &["tree"]);
+    for (name, text) in samples::worst_texts() {
+        let scanned = seconds(|| {
+            black_box(scan(black_box(&text)));
+        });
+        let mut room = vec![0; text.len()];
+        let mut nodes = vec![[0; 7]; text.len() / 2 + 2];
+        let tree = seconds(|| assert_eq!(lent::tree(&text, &mut room, &mut nodes, &mut [0; 8]), 0));
+        row(name, text.len(), scanned, &[tree]);
+    }
+}
+
+fn main() {
+    let chosen: Vec<String> = std::env::args().skip(1).collect();
+    let tables: [(&str, fn()); 3] = [("episodes", episodes), ("worst", worst), ("texts", worst_texts)];
+    let run = move || {
+        for (name, table) in tables {
+            if chosen.is_empty() || chosen.iter().any(|word| word == name) {
+                table();
+            }
+        }
+    };
+    // A very long cue text takes some 7 MB of stack.
+    let thread = std::thread::Builder::new().stack_size(64 << 20).spawn(run);
+    thread.and_then(|thread| thread.join().map_err(|_| std::io::Error::other("it was not measured"))).expect("a measurement");
+}

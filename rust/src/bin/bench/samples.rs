@@ -1,0 +1,110 @@
+//! The files that are measured: episodes like those of a captioning house, and the worst that sixteen megabytes can be.
+use spatzenherd::MAX_FILE;
+
+/// What every third, fifth and seventh cue has on its timing line.
+fn settings(cue: usize) -> &'static str {
+    match (cue % 3, cue % 5, cue % 7) {
+        (0, 0, _) => " line:10% position:20%,line-left size:60% align:left",
+        (0, _, _) => " region:low align:start",
+        (_, 0, _) => " line:-2 align:center",
+        (_, _, 0) => " vertical:rl position:12.5%",
+        _ => "",
+    }
+}
+
+const TEXTS: [&str; 6] = [
+    "The last tram does not wait for anyone tonight.\nRun!",
+    "<v Anna>Did you see <i>that</i>?",
+    "<v.loud Bert>Nein, das weiß ich nicht – warum?</v>",
+    "- I told you so.\n- You did not &amp; you know it.",
+    "[door closes]",
+    "Ein Satz, der etwas länger ist als die anderen,\nund der darum auf zwei Zeilen steht.",
+];
+
+/// An episode of about this many bytes: two regions, a style, a comment now and then, and cues one second apart.
+pub fn episode(length: usize, line_end: &str) -> Vec<u8> {
+    let mut file = String::from(
+        "WEBVTT - episode\n\nSTYLE\n::cue(.loud) { color: red }\n\nREGION\nid:low\nlines:2\n\nREGION\nid:top\nregionanchor:0%,0%\n\n",
+    );
+    let mut cue = 0;
+    while file.len() < length {
+        let time = |t: usize| format!("{:02}:{:02}:{:02}.{:03}", t / 3_600_000, t / 60_000 % 60, t / 1000 % 60, t % 1000);
+        if cue % 50 == 0 {
+            file.push_str("NOTE scene\nwith its second line\n\n");
+        }
+        if cue % 2 == 0 {
+            file.push_str(&format!("{cue}\n"));
+        }
+        let start = cue * 1000;
+        file.push_str(&format!("{} --> {}{}\n{}\n\n", time(start), time(start + 900), settings(cue), TEXTS[cue % TEXTS.len()]));
+        cue += 1;
+    }
+    file.replace('\n', line_end).into_bytes()
+}
+
+/// A file that is filled with copies of some bytes up to the greatest length.
+fn filled(start: &str, with: &[u8]) -> Vec<u8> {
+    let mut file = start.as_bytes().to_vec();
+    file.reserve(MAX_FILE - file.len());
+    while file.len() + with.len() <= MAX_FILE {
+        file.extend_from_slice(with);
+    }
+    file
+}
+
+/// Many regions, and cues that name each of them in turn.
+pub fn regions(regions: usize, cues: usize) -> Vec<u8> {
+    let mut file = String::from("WEBVTT\n\n");
+    for region in 0..regions {
+        file.push_str(&format!("REGION\nid:r{region:06}\n\n"));
+    }
+    for cue in 0..cues {
+        file.push_str(&format!("00:00.000 --> 00:01.000 region:r{:06}\nx\n\n", cue * 7919 % regions));
+    }
+    file.into_bytes()
+}
+
+/// The worst cases of reading, each with its name.
+pub fn worst() -> Vec<(&'static str, Vec<u8>)> {
+    let timing = "WEBVTT\n\n00:00.000 --> 00:01.000";
+    vec![
+        ("one line", filled("WEBVTT ", b"x")),
+        ("one cue text of one line", filled("WEBVTT\n\n00:00.000 --> 00:01.000\n", b"x")),
+        ("only LF", filled("WEBVTT\n", b"\n")),
+        ("only CR", filled("WEBVTT\n", b"\r")),
+        ("only `-`", filled("WEBVTT\n\n", b"-")),
+        ("only NUL", filled("WEBVTT\n\n", b"\0")),
+        ("only bytes FF", filled("WEBVTT\n\n", b"\xFF")),
+        ("only cut sequences F0 9F 98", filled("WEBVTT\n\n", b"\xF0\x9F\x98")),
+        ("only two-byte characters", filled("WEBVTT\n\n", "ß".as_bytes())),
+        ("only three-byte characters", filled("WEBVTT\n\n", "語".as_bytes())),
+        ("` a` on a timing line", filled(timing, b" a")),
+        ("` line:0` on a timing line", filled(timing, b" line:0")),
+        ("lines `-->`", filled("WEBVTT\n\n", b"-->\n")),
+        ("blocks of one letter", filled("WEBVTT\n\n", b"x\n\n")),
+        ("shortest cues", filled("WEBVTT\n\n", b"00:00.000-->00:00.000\n")),
+        ("a number of 16 million digits", filled("WEBVTT\n\n00:00.000 --> 00:01.000 position:", b"0")),
+        ("numbers of a million digits", {
+            let digits = [b" size:".as_slice(), &[b'1'; 1_000_000], b"%"].concat();
+            filled(timing, &digits)
+        }),
+        ("10^5 regions, 10^4 cues that name them", regions(100_000, 10_000)),
+    ]
+}
+
+/// The worst cases of a cue's text.
+pub fn worst_texts() -> Vec<(&'static str, Vec<u8>)> {
+    let of = |with: &str, length: usize| with.repeat(length / with.len()).into_bytes();
+    vec![
+        ("`<i>` in `<i>`, 700 KB", of("<i>", 700_000)),
+        ("`<i>` in `<i>`, 16 MB", of("<i>", MAX_FILE)),
+        ("`<i></i>`, 16 MB", of("<i></i>", MAX_FILE)),
+        ("`<c.a.b.c>`, 16 MB", of("<c.a.b.c>", MAX_FILE)),
+        ("`&amp;`, 16 MB", of("&amp;", MAX_FILE)),
+        ("`&`, 16 MB", of("&", MAX_FILE)),
+        ("`<`, 16 MB", of("<", MAX_FILE)),
+        ("`</i>`, 16 MB", of("</i>", MAX_FILE)),
+        ("`<00:00:00.000>`, 16 MB", of("<00:00:00.000>", MAX_FILE)),
+        ("one string, 16 MB", of("x", MAX_FILE)),
+    ]
+}

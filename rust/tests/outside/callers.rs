@@ -1,0 +1,133 @@
+//! Callers in other languages and on small stacks: each replaces a cue in a file of 60 KB, and gets that file with the cue's own bytes changed.
+use spatzenherd::{lent, replace, NewCue, Tree, LONG_TEXT};
+use std::path::{Path, PathBuf};
+use std::process::{Command, Output};
+
+const CUE: usize = 300;
+
+/// A file of 60 KB in two halves around its cue 300: comments, all three line ends, odd bytes, and no LF at its end.
+fn halves() -> (Vec<u8>, Vec<u8>, Vec<u8>) {
+    let mut half = [b"\xEF\xBB\xBFWEBVTT and a title\r\n\r\nNOTE stays \xFF\0\r\n\r\n".to_vec(), b"\r\n\r\n".to_vec()];
+    for cue in 0..2 * CUE {
+        let end = ["\n", "\r\n", "\r"][cue % 3];
+        let block = format!(
+            "{cue}{end}00:{:02}:{:02}.000 --> 00:{:02}:{:02}.900 align:left{end}A line of text that is as long as others.{end}And one more.{end}{end}",
+            cue / 60, cue % 60, cue / 60, cue % 60
+        );
+        half[cue / CUE].extend_from_slice(block.as_bytes());
+    }
+    half[1].extend_from_slice(b"NOTE cut \xE2\x82");
+    let [before, after] = half;
+    (before, b"00:05:00.000-->00:05:00.900 size:50%\rThe first tram.".to_vec(), after)
+}
+
+fn old_and_new() -> (Vec<u8>, Vec<u8>) {
+    let (before, cue, after) = halves();
+    let new = b"00:00:01.000 --> 00:00:02.500\nThe last tram.".to_vec();
+    ([before.clone(), cue, after.clone()].concat(), [before, new, after].concat())
+}
+
+fn above(path: &str) -> PathBuf {
+    Path::new(env!("CARGO_MANIFEST_DIR")).join("..").join(path)
+}
+
+fn archive() -> PathBuf {
+    std::env::var_os("SPATZENHERD_ARCHIVE").map_or_else(|| above("target/staticlib"), PathBuf::from).join("libc_api.a")
+}
+
+fn folder() -> PathBuf {
+    let folder = Path::new(env!("CARGO_TARGET_TMPDIR")).join("callers");
+    std::fs::create_dir_all(&folder).expect("a folder for what is built");
+    folder
+}
+
+fn compiled(arguments: &[&std::ffi::OsStr]) {
+    let output = Command::new("cc").args(arguments).output().expect("cc, the C compiler, is missing");
+    assert!(output.status.success(), "cc: {}", String::from_utf8_lossy(&output.stderr));
+}
+
+/// What a program that replaces the cue prints, and its refusal of a cue that is not there.
+fn try_caller(run: impl Fn(&Path, &str) -> Output, name: &str) {
+    let (old, new) = old_and_new();
+    assert!(old.len() > 60_000, "{}", old.len());
+    let captions = folder().join(format!("{name}.vtt"));
+    std::fs::write(&captions, &old).expect("the file is written");
+    let output = run(&captions, &CUE.to_string());
+    assert!(output.status.success(), "{name}: {}", String::from_utf8_lossy(&output.stderr));
+    assert!(output.stdout == new, "{name}: other bytes than those promised");
+    let output = run(&captions, "601");
+    assert!(
+        !output.status.success() && output.stdout.is_empty() && String::from_utf8_lossy(&output.stderr).contains('7'),
+        "{name}: {output:?}"
+    );
+}
+
+#[test]
+fn from_rust() {
+    let (old, new) = old_and_new();
+    let cue = NewCue { start: 1000, end: 2500, text: "The last tram.", ..NewCue::default() };
+    assert!(replace(&old, CUE, &cue).expect("it is accepted") == new);
+}
+
+#[test]
+fn from_c() {
+    let program = folder().join("replace");
+    let warnings = ["-std=c99", "-Wall", "-Wextra", "-Werror", "-pedantic", "-I"].map(std::ffi::OsStr::new);
+    let (header, example) = (above("include"), above("examples/replace.c"));
+    let archive = archive();
+    let files = [header.as_os_str(), "-o".as_ref(), program.as_os_str(), example.as_os_str(), archive.as_os_str()];
+    compiled(&[warnings.as_slice(), files.as_slice()].concat());
+    try_caller(
+        |captions, cue| Command::new(&program).arg(captions).args([cue, "1000", "2500", "The last tram."]).output().expect("it runs"),
+        "c",
+    );
+}
+
+/// The example of docs/LIBRARY.md: the indented lines after its heading, from `import` on.
+fn python_example() -> String {
+    let page = std::fs::read_to_string(above("docs/LIBRARY.md")).expect("docs/LIBRARY.md");
+    let section = page.split("\n## From Python\n").nth(1).expect("the section From Python");
+    let lines = section.lines().skip_while(|line| !line.starts_with("    import ")).take_while(|line| line.starts_with("    "));
+    lines.map(|line| line[4..].to_string() + "\n").collect()
+}
+
+#[test]
+fn from_python() {
+    if Command::new("python3").arg("--version").output().is_err() {
+        println!("python3 is not on this machine: its example was not run");
+        return;
+    }
+    let (library, script) = (folder().join("libspatzenherd.so"), folder().join("replace.py"));
+    let example = python_example();
+    assert!((10..=20).contains(&example.lines().count()), "{example}");
+    std::fs::write(&script, example).expect("the example is written");
+    let archive = archive();
+    let words = ["-shared", "-o"].map(std::ffi::OsStr::new);
+    let files = [library.as_os_str(), "-Wl,--whole-archive".as_ref(), archive.as_os_str(), "-Wl,--no-whole-archive".as_ref()];
+    compiled(&[words.as_slice(), files.as_slice()].concat());
+    let run =
+        |captions: &Path, cue: &str| Command::new("python3").args([&script, &library]).arg(captions).args([cue, "The last tram."]).output();
+    try_caller(|captions, cue| run(captions, cue).expect("it runs"), "python");
+}
+
+fn on_a_stack_of(bytes: usize, call: impl FnOnce() + Send + 'static) {
+    std::thread::Builder::new().stack_size(bytes).spawn(call).expect("a thread").join().expect("it answers");
+}
+
+/// A cue's text of up to 786,432 bytes is read on a stack of 256 KB, and the safe function takes a longer one there too.
+#[test]
+fn on_a_small_stack() {
+    on_a_stack_of(256 << 10, || {
+        for length in [0, 41, 12_288, 12_289, LONG_TEXT] {
+            let text = "<i>".repeat(length / 3) + &"x".repeat(length % 3);
+            let (mut room, mut nodes) = (vec![0; length], vec![[0; 7]; length / 3 + 1]);
+            assert_eq!(lent::tree(text.as_bytes(), &mut room, &mut nodes, &mut [0; 8]), 0);
+            assert_eq!(
+                lent::tree(text.as_bytes(), &mut [], &mut [], &mut [0; 8]),
+                if length == 0 { 0 } else { 6 - 4 * u64::from(length % 3 > 0) }
+            );
+        }
+        let long = "<b>".repeat(LONG_TEXT);
+        assert_eq!(Tree::read(&long).expect("it is read").nodes().len(), LONG_TEXT);
+    });
+}
