@@ -1,5 +1,5 @@
 -- The answer of reading, by the tests that the code makes one after the other.
-use Prim.Native.Nat.{ℕ, _≤_}
+use Prim.Native.Nat.{ℕ, _≤_, _<_}
 use mathlib.Core.Path.{_≡_, refl, sym}
 use mathlib.Core.Bool.{true, false, _||_}
 use mathlib.Core.List.{List, [], _∷_}
@@ -7,18 +7,21 @@ use mathlib.Core.Logic.{⊎-elim}
 use native.Mathlib.Omega.{arith}
 use lib.Dec.{ltb}
 use lib.ListN.{length}
-use borrow.Author.Tests.{ltb-false}
+use borrow.Author.Tests.{ltb-false, lt-ltb, le-ltb}
 use types.Run.{OneOf}
 use denote.Enum.Declared.{tagOf}
 use Rattle.format.specs.Limits.{maxText}
 use Rattle.format.specs.Plain.{firstNotPlain}
 use Rattle.format.specs.Blocks.{hasSignature}
 use Rattle.format.specs.Lists.{items, lists, anyOver}
-use Rattle.format.specs.Answers.{ifAccepted, placed}
+use Rattle.format.specs.Rows.{cueRows, regionRows, styleRows}
+use Rattle.format.specs.Answers.{refused, ifAccepted, placed}
+use Rattle.format.specs.Converting.{plainnessIs, testing}
 use Rattle.format.specs.Reading.{readingIs, reading, counts, afterReading}
 use Rattle.format.proofs.Reading.{the-type}
 use Rattle.format.specs.declared.Reading.{Reading}
 use Rattle.format.specs.declared.Reading.the-variants as Reading
+use Rattle.laws.proofs.Answers.{not-plain}
 use Rattle.laws.proofs.Tests.{by-test, or-first, or-second}
 use Rattle.reader.specs.Counting.{tallyWith, tallyIs, countedIs, Readable, Refused, MeasuredIs}
 
@@ -60,6 +63,32 @@ refuses s (Reading.TextNotPlainAt i) m k = record { answer = λ a b c. sym (m a 
 refuses s Reading.NoSignature m k = record { answer = λ a b c. sym (m a b c); unchanged = λ rows table. refl }
 refuses s Reading.OverLimit m k = record { answer = λ a b c. sym (m a b c); unchanged = λ rows table. refl }
 refuses s (Reading.TablesTooShort c r t) m k = absurd m
+
+-- the two refusals that are given before the text is known to be plain
+pub refuses-long : (s : List ℕ) → maxText < length s → Refuses s Reading.TextTooLong
+unfolding readingIs afterReading ifAccepted
+refuses-long s h = record { answer = λ a b c. sym (too-long s (lt-ltb maxText (length s) h) a b c); unchanged = λ rows table. refl }
+
+pub refuses-not-plain : (s : List ℕ) (i : ℕ) → length s ≤ maxText → refused 3 (i ∷ []) ≡ testing s → Refuses s (Reading.TextNotPlainAt i)
+unfolding readingIs afterReading ifAccepted plainnessIs
+refuses-not-plain s i h e =
+    let told = not-plain s i e in
+    let size = le-ltb maxText (length s) h in
+    record { answer = λ a b c. sym (refused-plain s size i (told .0) (told .1) a b c); unchanged = λ rows table. refl }
+
+-- a refusal, with the tables as they were
+pub nothing-changes :
+    (s : List ℕ) (r : Reading)
+    → Refuses s r
+    → (cues regions styles : List (List ℕ))
+    → (readingIs r ≡ reading s (length cues) (length regions) (length styles))
+    × ((cues ≡ afterReading (readingIs r) (cueRows (lists s .regions) (lists s .cues)) cues)
+    × ((regions ≡ afterReading (readingIs r) (regionRows (lists s .regions)) regions)
+    × (styles ≡ afterReading (readingIs r) (styleRows (lists s .styles)) styles)))
+nothing-changes s r refusal cues regions styles = (
+  refusal .answer (length cues) (length regions) (length styles),
+  (refusal .unchanged (cueRows (lists s .regions) (lists s .cues)) cues, (refusal .unchanged (regionRows (lists s .regions)) regions, refusal .unchanged (styleRows (lists s .styles)) styles)),
+)
 
 -- the answer of a readable text, by the tables' lengths
 module _ (s : List ℕ) (c r t : ℕ) (m : Readable s c r t) (cues regions styles : ℕ) where

@@ -1,14 +1,14 @@
-// The first pass over a text: every refusal that the text itself gives, and how many entries each list has.
+// The first pass over a plain text: every refusal that it gives, and how many entries each list has.
 use blocks::Next;
 use blocks::collecting::is_last;
 use blocks::items::Item;
-use format::Plainness;
 use format::Reading;
 ghost use mathlib.Core.Path.{_≡_};
 ghost use mathlib.Core.Bool.{false};
 ghost use Prim.Native.Nat.{_≤_};
 ghost use lib.ListN.{length};
 ghost use Rattle.format.specs.Limits.{maxText};
+ghost use Rattle.format.specs.Plain.{firstNotPlain};
 ghost use Rattle.format.specs.Blocks.{between, blocksFrom};
 ghost use Rattle.format.specs.Lists.{itemsFrom};
 ghost use Rattle.blocks.specs.Collecting.{linesFrom};
@@ -95,17 +95,11 @@ fn counted(tally: Tally) -> Reading
     }
 }
 
-// The counts of a text's lists, or the first refusal that the text gives.
+// The counts of a plain text's lists, or the first refusal that the text gives.
 pub(crate) fn measure(s: &[u8]) -> Reading
+    requires { ⌜ (length (now s) ≤ maxText) × (length (now s) ≤ firstNotPlain (now s)) ⌝ }
     ensures { λ r. ⌜ MeasuredIs (now (s .entry)) r ⌝ }
 {
-    if format::MAX_TEXT < s.len() {
-        return Reading::TextTooLong;
-    }
-    let plainness = plain::first_not_plain(s);
-    if let Plainness::NotPlainAt(at) = plainness {
-        return Reading::TextNotPlainAt(at);
-    }
     if !blocks::has_signature(s) {
         return Reading::NoSignature;
     }

@@ -1,11 +1,10 @@
 // Reading a plain text into lent tables of cues, regions and style texts. Any bytes and tables of any length are taken.
+use format::Plainness;
 use format::Reading;
 use format::rows::CueRow;
 use format::rows::RegionRow;
 use format::rows::StyleRow;
 ghost use mathlib.Core.Path.{_≡_};
-ghost use mathlib.Core.Bool.{_||_};
-ghost use lib.Dec.{ltb};
 ghost use lib.ListN.{length};
 ghost use Rattle.format.specs.Lists.{lists};
 ghost use Rattle.format.specs.Rows.{cueRows, regionRows, styleRows};
@@ -13,19 +12,7 @@ ghost use Rattle.format.specs.Reading.{readingIs, reading, afterReading};
 
 mod counting;
 mod filling;
-
-// Is one of three tables shorter than it has to be.
-fn too_short(cues: usize, regions: usize, styles: usize, need: counting::Counts) -> bool
-    ensures { λ r. ⌜ r ≡ (ltb cues (need .cues) || ltb regions (need .regions) || ltb styles (need .styles)) ⌝ }
-{
-    if cues < need.cues {
-        return true;
-    }
-    if regions < need.regions {
-        return true;
-    }
-    styles < need.styles
-}
+pub mod inner;
 
 // The lists of a plain text, as rows at the start of each table. The meaning of a row's words is in format/specs/Rows.antt.
 pub fn read(
@@ -39,27 +26,11 @@ pub fn read(
     ensures regions { λ r. ⌜ now (regions .exit) ≡ afterReading (readingIs r) (regionRows (lists (now (text .entry)) .regions)) (now (regions .entry)) ⌝ }
     ensures styles { λ r. ⌜ now (styles .exit) ≡ afterReading (readingIs r) (styleRows (lists (now (text .entry)) .styles)) (now (styles .entry)) ⌝ }
 {
-    let measured = counting::measure(text);
-    let Reading::Lists {
-        cues: c,
-        regions: r,
-        styles: s,
-    } = measured
-    else {
-        return measured;
-    };
-    let need = counting::Counts {
-        cues: c,
-        regions: r,
-        styles: s,
-    };
-    if too_short(cues.len(), regions.len(), styles.len(), need) {
-        return Reading::TablesTooShort {
-            cues: c,
-            regions: r,
-            styles: s,
-        };
+    if format::MAX_TEXT < text.len() {
+        return Reading::TextTooLong;
     }
-    filling::fill(text, blocks::past_header(text), cues, regions, styles);
-    measured
+    match plain::first_not_plain(text) {
+        Plainness::Plain => inner::read_plain(text, cues, regions, styles),
+        Plainness::NotPlainAt(i) => Reading::TextNotPlainAt(i),
+    }
 }

@@ -1,71 +1,39 @@
 -- `reader::read` meets its contract.
-use mathlib.Core.Path.{sym, _∙_}
-use lib.ListN.{length}
+use mathlib.Core.Path.{sym, ap, _∙_}
 use borrow.Author.Tests.{ltb-false}
-use Rattle.format.specs.Limits.{maxText}
-use Rattle.format.specs.Lists.{lists}
-use Rattle.format.specs.Rows.{cueRows, regionRows, styleRows}
-use Rattle.blocks.proofs.WalkLaws.{after-header}
-use Rattle.reader.specs.Counting.{Readable}
-use Rattle.reader.proofs.ReadLaws.{refuses, short-answer, full-answer, long-enough, accepted-rows, short-rows}
+use lib.ListN.{length}
+use Rattle.format.specs.Plain.{firstNotPlain}
+use Rattle.format.specs.Converting.{plainnessIs}
+use Rattle.format.specs.declared.Reading.the-variants as Reading
+use Rattle.laws.proofs.Answers.{all-plain}
+use Rattle.reader.proofs.ReadLaws.{refuses-long, refuses-not-plain, nothing-changes}
 use borrow.Author.Needs.{needs}
 use Rattle.reader.proofs.read.Statement.{statement}
 use Rattle.reader.proofs.read.Tie as tie
 
-measure-requires : tie.Need-measure-requires
-measure-requires c κs = search needs
-
-enum-known-measured : tie.Need-enum-known-measured
-enum-known-measured c = search needs
-
 returns : tie.Need-returns
 returns c =
-    let a = c .before .before .before .args in
+    let a = c .before .before .args in
     let s = a .text .now in
-    let no = refuses s (c .before .measure .result) (c .before .measure .ensures) (c .match .keys2) in (
-      no .answer (length (a .cues .now)) (length (a .regions .now)) (length (a .styles .now)),
-      (no .unchanged (cueRows (lists s .regions) (lists s .cues)) (a .cues .now), (no .unchanged (regionRows (lists s .regions)) (a .regions .now), no .unchanged (styleRows (lists s .styles)) (a .styles .now))),
-    )
+    nothing-changes s Reading.TextTooLong (refuses-long s (c .if1 .taken)) (a .cues .now) (a .regions .now) (a .styles .now)
 
-too-short-requires : tie.Need-too-short-requires
-too-short-requires c κs = search needs
+first-not-plain-requires : tie.Need-first-not-plain-requires
+first-not-plain-requires c κs = search needs
 
--- the text is readable, with these counts
-readable :
-    (c : tie.After-measured)
-    → let n = c .measured .given .0 in Readable (c .before .before .before .before .args .text .now) (n .0) (n .1 .0) (n .1 .1 .0)
-readable c = rw (c .measured .given .1) at (c .before .before .measure .ensures)
+enum-told : tie.Need-enum-told
+enum-told c = search needs
 
-returns-2 : tie.Need-returns-2
-returns-2 c =
-    let found = c .before .before .before in
-    let a = found .before .before .before .before .args in
-    let s = a .text .now in
-    let n = found .measured .given .0 in
-    let short = sym (c .before .too-short .ensures) ∙ c .if1 .taken in (
-      short-answer s (n .0) (n .1 .0) (n .1 .1 .0) (readable found) (length (a .cues .now)) (length (a .regions .now)) (length (a .styles .now)) short,
-      (
-        short-rows (n .0) (n .1 .0) (n .1 .1 .0) (cueRows (lists s .regions) (lists s .cues)) (a .cues .now),
-        (short-rows (n .0) (n .1 .0) (n .1 .1 .0) (regionRows (lists s .regions)) (a .regions .now), short-rows (n .0) (n .1 .0) (n .1 .1 .0) (styleRows (lists s .styles)) (a .styles .now)),
-      ),
-    )
+read-plain-requires : tie.Need-read-plain-requires
+unfolding plainnessIs
+read-plain-requires c κs =
+    let known = c .before .before .before in
+    let tested = known .before .before in
+    let s = tested .before .before .before .args .text .now in
+    let plain = all-plain s (ap plainnessIs (sym (known .enum-told .given .1)) ∙ tested .first-not-plain .ensures) in
+    (tested .before .if1 .left, ltb-false (firstNotPlain s) (length s) plain)
 
-past-header-requires : tie.Need-past-header-requires
-past-header-requires c κs = search needs
-
-fill-requires : tie.Need-fill-requires
-fill-requires c κs =
-    let past = c .before .before .before in
-    let out = past .before in
-    let found = out .before .before .before in
-    let a = found .before .before .before .before .args in
-    let s = a .text .now in
-    let n = found .measured .given .0 in
-    let m = readable found in
-    let long = sym (out .before .too-short .ensures) ∙ out .if1 .left in (
-      (rw (past .past-header .ensures) (after-header s .0), ltb-false maxText (length s) (m .size), rw (past .past-header .ensures) (after-header s .1), m .within),
-      long-enough s (n .0) (n .1 .0) (n .1 .1 .0) m (length (a .cues .now)) (length (a .regions .now)) (length (a .styles .now)) long,
-    )
+enum-known-i : tie.Need-enum-known-i
+enum-known-i c = search needs
 
 same-length : tie.Need-same-length
 same-length c = search needs
@@ -76,25 +44,21 @@ same-length-2 c = search needs
 same-length-3 : tie.Need-same-length-3
 same-length-3 c = search needs
 
+returns-2 : tie.Need-returns-2
+returns-2 c = search needs
+
 returns-3 : tie.Need-returns-3
+unfolding plainnessIs
 returns-3 c =
-    let filled = c .before .before .before in
-    let out = filled .before .before .before .before .before in
-    let found = out .before .before .before in
-    let a = found .before .before .before .before .args in
+    let known = c .before in
+    let tested = known .before .before in
+    let a = tested .before .before .before .args in
     let s = a .text .now in
-    let n = found .measured .given .0 in
-    let m = readable found in
-    let long = sym (out .before .too-short .ensures) ∙ out .if1 .left in (
-      full-answer s (n .0) (n .1 .0) (n .1 .1 .0) m (length (a .cues .now)) (length (a .regions .now)) (length (a .styles .now)) long,
-      (
-        filled .fill .ensures .0 ∙ accepted-rows (n .0) (n .1 .0) (n .1 .1 .0) (cueRows (lists s .regions) (lists s .cues)) (a .cues .now),
-        (
-          filled .fill .ensures .1 .0 ∙ accepted-rows (n .0) (n .1 .0) (n .1 .1 .0) (regionRows (lists s .regions)) (a .regions .now),
-          filled .fill .ensures .1 .1 ∙ accepted-rows (n .0) (n .1 .0) (n .1 .1 .0) (styleRows (lists s .styles)) (a .styles .now),
-        ),
-      ),
-    )
+    let i = known .i .given .0 .0 in
+    let told = ap plainnessIs (sym (known .i .given .1)) ∙ tested .first-not-plain .ensures in
+    nothing-changes s (Reading.TextNotPlainAt i) (refuses-not-plain s i (tested .before .if1 .left) told) (a .cues .now) (a .regions .now) (a .styles .now)
 
 pub read-spec : {M : Type 1} → statement M
-read-spec = tie.close (tie.spec measure-requires enum-known-measured returns too-short-requires returns-2 past-header-requires fill-requires same-length same-length-2 same-length-3 returns-3)
+read-spec =
+    tie.close
+    (tie.spec returns first-not-plain-requires enum-told read-plain-requires enum-known-i same-length same-length-2 same-length-3 returns-2 returns-3)

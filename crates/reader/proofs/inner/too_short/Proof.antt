@@ -1,9 +1,9 @@
--- `reader::too_short` meets its contract.
+-- `reader::inner::too_short` meets its contract.
 use borrow.Author.Tests.{lt-ltb, le-ltb}
 use Rattle.laws.proofs.Tests.{or-true}
 use lib.Dec.{ltb}
-use Rattle.reader.proofs.too_short.Statement.{statement}
-use Rattle.reader.proofs.too_short.Tie as tie
+use Rattle.reader.proofs.inner.too_short.Statement.{statement}
+use Rattle.reader.proofs.inner.too_short.Tie as tie
 
 returns : tie.Need-returns
 returns c = let a = c .before .before .args in rw (lt-ltb (a .cues) (a .need .cues) (c .if1 .taken))
