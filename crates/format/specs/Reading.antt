@@ -2,7 +2,7 @@
 use Prim.Native.Nat.{ℕ}
 use mathlib.Core.Path.{_≡_}
 use mathlib.Core.Bool.{true, cond, not, _||_}
-use mathlib.Core.List.{List, [], _∷_}
+use mathlib.Core.List.{List, [], _∷_, _++_}
 use lib.Dec.{ltb}
 use lib.ListN.{length}
 use Rattle.format.specs.Limits.{maxText}
@@ -11,6 +11,8 @@ use Rattle.format.specs.Blocks.{hasSignature}
 use Rattle.format.specs.Lists.{items, Lists, lists, anyOver}
 use Rattle.format.specs.Answers.{Answer, accepted, refused, refusedOnlyBy, ifAccepted, andThen, placed}
 use Rattle.format.specs.Converting.{converting}
+use Rattle.format.specs.declared.FileReading.{FileReading}
+use Rattle.format.specs.declared.FileReading.the-variants as FileReading
 use Rattle.format.specs.declared.Reading.{Reading}
 use Rattle.format.specs.declared.Reading.the-variants as Reading
 
@@ -41,6 +43,19 @@ reading s cues regions styles =
 -- converting a raw file and then reading its text, the text room having this length: the first refusal of both, else the counts
 unfoldable pub readingRaw : List ℕ → ℕ → ℕ → ℕ → ℕ → Answer
 readingRaw raw room cues regions styles = andThen (converting raw room) (reading (plainText raw) cues regions styles)
+
+-- the same as one call, which tells the text's length after the counts: the number and the values of each case
+unfoldable pub fileReadingIs : FileReading → Answer
+fileReadingIs (FileReading.Lists cues regions styles text) = accepted (cues ∷ regions ∷ styles ∷ text ∷ [])
+fileReadingIs FileReading.RawTooLong = refused 1 []
+fileReadingIs (FileReading.RoomTooShort n) = refused 2 (n ∷ [])
+fileReadingIs FileReading.NoSignature = refused 4 []
+fileReadingIs FileReading.OverLimit = refused 5 []
+fileReadingIs (FileReading.TablesTooShort cues regions styles) = refused 6 (cues ∷ regions ∷ styles ∷ [])
+
+unfoldable pub fileReading : List ℕ → ℕ → ℕ → ℕ → ℕ → Answer
+fileReading raw room cues regions styles =
+    andThen (readingRaw raw room cues regions styles) (accepted (counts (lists (plainText raw)) ++ length (plainText raw) ∷ []))
 
 -- "Converting the … file and reading the text so made is refused by no number but 2 and 6."
 abbrev pub ReadsAgain : List ℕ → Type 0

@@ -53,6 +53,31 @@ pub enum Reading {
     },
 }
 
+// What converting a raw file and reading its text in one call answers.
+pub enum FileReading {
+    // The lists stand at the tables' starts, with this many entries, and the text at its room's start, this many bytes long.
+    Lists {
+        cues: usize,
+        regions: usize,
+        styles: usize,
+        text: usize,
+    },
+    // Refusal 1: the raw file is over MAX_FILE bytes.
+    RawTooLong,
+    // Refusal 2: the text room is shorter than the text, which needs this many bytes.
+    RoomTooShort(usize),
+    // Refusal 4.
+    NoSignature,
+    // Refusal 5: a number is above its limit.
+    OverLimit,
+    // Refusal 6: a list has more entries than its table; all counts.
+    TablesTooShort {
+        cues: usize,
+        regions: usize,
+        styles: usize,
+    },
+}
+
 // What asking for a part of a cue answers.
 pub enum PartAnswer {
     // The part is handed back.

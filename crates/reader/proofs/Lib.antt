@@ -2,3 +2,4 @@
 pub mod CountLaws
 pub mod ReadLaws
 pub mod FillLaws
+pub mod FileLaws

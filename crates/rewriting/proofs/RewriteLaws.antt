@@ -52,46 +52,6 @@ module _ (next : Answer) (file out : List ℕ) where
   stops Reading.OverLimit k never = record { answer = refl; room = refl }
   stops (Reading.TablesTooShort c r t) k never = record { answer = refl; room = refl }
 
--- a refusal by another number is not by this test
-other : (t : Bool) (n k : ℕ) (us vs : List ℕ) (a : Answer) → (n ≡ k → ⊥) → refused n us ≡ cond t (refused k vs) a → refused n us ≡ a
-other true n k us vs a never e = absurd (never cc)
-other false n k us vs a never e = e
-
--- a plain text is not refused by 3
-pub plain-read :
-    (s : List ℕ) (cues regions styles : ℕ) (r : Reading)
-    → length s ≤ firstNotPlain s
-    → readingIs r ≡ reading s cues regions styles
-    → (i : ℕ)
-    → r ≡ Reading.TextNotPlainAt i
-    → ⊥
-unfolding readingIs reading
-plain-read s cues regions styles r l e i is =
-    let l₀ = lists s in
-    let short = ltb cues (length (l₀ .cues)) || ltb regions (length (l₀ .regions)) || ltb styles (length (l₀ .styles)) in
-    let told : refused 3 (i ∷ []) ≡ cond (ltb maxText (length s)) (refused 1 []) _ = rw (is, le-ltb (firstNotPlain s) (length s) l) at e in
-    let sized = other (ltb maxText (length s)) 3 1 (i ∷ []) [] _ (λ z. omega arith) told in
-    let signed = other (not (hasSignature s)) 3 4 (i ∷ []) [] _ (λ z. omega arith) sized in
-    let within = other (anyOver (items s)) 3 5 (i ∷ []) [] _ (λ z. omega arith) signed in
-    let fits : refused 3 (i ∷ []) ≡ accepted (counts l₀) = other short 3 6 (i ∷ []) (counts l₀) _ (λ z. omega arith) within in
-    let z : _≡_ {A = ℕ} 0 1 = cc in
-    omega arith
-
--- only the counts of the lists are accepted
-same-values : (vs us : List ℕ) → accepted vs ≡ accepted us → vs ≡ us
-same-values vs us e = cc
-
-counted : (s : List ℕ) (cues regions styles : ℕ) (vs : List ℕ) → accepted vs ≡ reading s cues regions styles → vs ≡ counts (lists s)
-unfolding reading
-counted s cues regions styles vs e =
-    let l = lists s in
-    let size = after-test (ltb maxText (length s)) 1 [] vs _ (sym e) in
-    let plain = after-test (ltb (firstNotPlain s) (length s)) 3 (firstNotPlain s ∷ []) vs _ (size .1) in
-    let signed = after-test (not (hasSignature s)) 4 [] vs _ (plain .1) in
-    let within = after-test (anyOver (items s)) 5 [] vs _ (signed .1) in
-    let short = ltb cues (length (l .cues)) || ltb regions (length (l .regions)) || ltb styles (length (l .styles)) in
-    same-values vs (counts l) (sym (after-test short 6 (counts l) vs _ (within .1) .1))
-
 -- the first rows of a table, cut where it ends
 pub first : {A : Type 0} (n k : ℕ) (l : List A) → k ≡ min n (length l) → take n l ≡ take k l
 first n k l e = rw e (take-min n l)
