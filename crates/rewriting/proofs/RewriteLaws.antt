@@ -3,7 +3,7 @@ use Prim.Native.Nat.{ℕ, _≤_, min}
 use mathlib.Core.Path.{_≡_, refl, sym, ap, _∙_}
 use mathlib.Core.Bool.{Bool, true, false, cond, not, _||_}
 use mathlib.Core.Logic.{⊎-elim}
-use mathlib.Core.List.{List, [], _∷_}
+use mathlib.Core.List.{List, [], _∷_, _++_}
 use native.Mathlib.Omega.{arith}
 use lib.Dec.{ltb}
 use lib.ListN.{length, take, length-map}
@@ -11,46 +11,80 @@ use lib.Seq.{length-take-le}
 use borrow.Author.Tests.{ltb-false, le-ltb}
 use Rattle.laws.proofs.Answers.{after-test, front}
 use Rattle.laws.proofs.Rows.{rows-say}
-use types.Run.{OneOf}
-use denote.Enum.Declared.{tagOf}
 use Rattle.format.specs.Answers.{Answer, accepted, refused, ifAccepted, andThen, placed}
-use Rattle.format.specs.Limits.{maxText}
-use Rattle.format.specs.Plain.{firstNotPlain}
+use Rattle.format.specs.Limits.{maxFile, maxText}
+use Rattle.format.specs.Plain.{plainText}
 use Rattle.format.specs.Blocks.{hasSignature}
 use Rattle.format.specs.Lists.{items, lists, anyOver}
 use Rattle.format.specs.Rows.{cueRows, regionRows, styleRows}
-use Rattle.format.specs.Reading.{readingIs, counts, reading, afterReading}
+use Rattle.format.specs.Converting.{converting}
+use Rattle.format.specs.Reading.{counts, reading, readingRaw, fileReading, afterReading}
 use Rattle.format.specs.Contents.{storedContents}
 use Rattle.format.specs.Written.{written}
 use Rattle.format.specs.Writing.{fileOf}
-use Rattle.format.specs.Rewriting.{rewritingIs, rewrittenFile}
-use Rattle.format.proofs.Reading.{the-type}
+use Rattle.format.specs.Rewriting.{rewrittenFile}
+use Rattle.reader.proofs.FileLaws.{counted}
 use Rattle.lookup.proofs.NameLaws.{take-min}
-use Rattle.format.specs.declared.Reading.{Reading}
-use Rattle.format.specs.declared.Reading.the-variants as Reading
-use Rattle.format.specs.declared.Rewriting.{Rewriting}
-use Rattle.rewriting.specs.Refusals.{unreadIs}
 
--- after a refusal to read nothing is done
-module _ (next : Answer) (file out : List ℕ) where
-  pub record Stops (r : Reading) (t : Rewriting) : Type 0 where
-    pub answer : rewritingIs t ≡ andThen (readingIs r) next
-    pub room : out ≡ ifAccepted (andThen (readingIs r) next) (placed file out) out
+-- a refusal to read the file is one of converting and reading
+not-read : (a : Answer) (n : ℕ) (us vs : List ℕ) → refused n us ≡ andThen a (accepted vs) → a ≡ refused n us
+unfolding andThen ifAccepted
+not-read (accepted ws) n us vs e = let z : _≡_ {A = ℕ} 0 1 = cc e in absurd (omega arith)
+not-read (refused m ws) n us vs e = sym e
 
-  pub stops :
-      (r : Reading)
-      → OneOf (1 ∷ 2 ∷ 3 ∷ 4 ∷ 5 ∷ []) (tagOf the-type r)
-      → ((i : ℕ) → r ≡ Reading.TextNotPlainAt i → ⊥)
-      → Stops r (unreadIs r)
-  unfolding readingIs rewritingIs andThen ifAccepted
-  stops (Reading.Lists c r t) k never =
-      absurd
-      (⊎-elim (λ e. omega arith) (⊎-elim (λ e. omega arith) (⊎-elim (λ e. omega arith) (⊎-elim (λ e. omega arith) (λ e. omega arith)))) k)
-  stops Reading.TextTooLong k never = record { answer = refl; room = refl }
-  stops (Reading.TextNotPlainAt i) k never = absurd (never i refl)
-  stops Reading.NoSignature k never = record { answer = refl; room = refl }
-  stops Reading.OverLimit k never = record { answer = refl; room = refl }
-  stops (Reading.TablesTooShort c r t) k never = record { answer = refl; room = refl }
+pub file-refused :
+    (raw : List ℕ) (room cues regions styles : ℕ) {n : ℕ} {us : List ℕ}
+    → refused n us ≡ fileReading raw room cues regions styles
+    → readingRaw raw room cues regions styles ≡ refused n us
+unfolding fileReading
+file-refused raw room cues regions styles {n} {us} e = not-read (readingRaw raw room cues regions styles) n us _ e
+
+-- where both accept, both answers
+pub record Both (a b : Answer) (vs : List ℕ) : Type 0 where
+  pub values : List ℕ
+  pub first : a ≡ accepted values
+  pub second : b ≡ accepted vs
+
+both : (a b : Answer) (vs : List ℕ) → accepted vs ≡ andThen a b → Both a b vs
+unfolding andThen ifAccepted
+both (accepted ws) b vs e = record { values = ws; first = refl; second = sym e }
+both (refused m ws) b vs e = let z : _≡_ {A = ℕ} 0 1 = cc e in absurd (omega arith)
+
+-- converting tells the text's length alone
+lengths-told : (raw : List ℕ) (room : ℕ) (vs : List ℕ) → converting raw room ≡ accepted vs → accepted (length (plainText raw) ∷ []) ≡ converting raw room
+unfolding converting
+lengths-told raw room vs e =
+    let within = after-test (ltb maxFile (length raw)) 1 [] vs _ e in
+    let fitting = after-test (ltb room (length (plainText raw))) 2 (length (plainText raw) ∷ []) vs _ (within .1) in
+    fitting .1 ∙ sym e
+
+same-values : (vs us : List ℕ) → accepted vs ≡ accepted us → vs ≡ us
+same-values vs us e = cc
+
+-- a file that was read: it was converted to a text of this length, and the text was read
+pub record FileRead (raw : List ℕ) (room cues regions styles c r t n : ℕ) : Type 0 where
+  pub whole : readingRaw raw room cues regions styles ≡ accepted (c ∷ r ∷ t ∷ [])
+  pub converted : accepted (n ∷ []) ≡ converting raw room
+  pub lists-read : accepted (c ∷ r ∷ t ∷ []) ≡ reading (plainText raw) cues regions styles
+
+pub file-read :
+    (raw : List ℕ) (room cues regions styles c r t n : ℕ)
+    → accepted (c ∷ r ∷ t ∷ n ∷ []) ≡ fileReading raw room cues regions styles
+    → FileRead raw room cues regions styles c r t n
+unfolding fileReading readingRaw counts
+file-read raw room cues regions styles c r t n e =
+    let s = plainText raw in
+    let outer = both (readingRaw raw room cues regions styles) _ (c ∷ r ∷ t ∷ n ∷ []) e in
+    let inner = both (converting raw room) (reading s cues regions styles) (outer .values) (sym (outer .first)) in
+    let us = counted s cues regions styles (outer .values) (sym (inner .second)) in
+    let all : counts (lists s) ++ length s ∷ [] ≡ c ∷ r ∷ t ∷ n ∷ [] = same-values _ _ (outer .second) in
+    let three : outer .values ≡ c ∷ r ∷ t ∷ [] = us ∙ cc all in
+    let size : length s ≡ n = cc all in
+    record {
+      whole = rw three at (outer .first);
+      converted = rw size at (lengths-told raw room (inner .values) (inner .first));
+      lists-read = sym (rw three at (inner .second));
+    }
 
 -- the first rows of a table, cut where it ends
 pub first : {A : Type 0} (n k : ℕ) (l : List A) → k ≡ min n (length l) → take n l ≡ take k l

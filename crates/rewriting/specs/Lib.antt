@@ -1,2 +1,0 @@
--- What the contracts of this crate's functions say beyond `format`.
-pub mod Refusals
