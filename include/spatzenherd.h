@@ -99,6 +99,12 @@ uint64_t spatz_read(const uint8_t *text, size_t text_length, uint64_t (*cues)[SP
                     uint64_t (*regions)[SPATZ_REGION_WORDS], size_t region_rows, uint64_t (*styles)[SPATZ_STYLE_WORDS],
                     size_t style_rows, uint64_t values[8]);
 
+/* Converting and reading in one call, which is the fastest way from a file to its lists. Accepted: the counts of cues, regions, styles, and the
+ * text's length. A refusal (1, 2, 4, 5, 6) changes no table; the text is left at the start of `text` but for 1 and 2, which leave it as it was. */
+uint64_t spatz_read_file(const uint8_t *raw, size_t raw_length, uint8_t *text, size_t text_length, uint64_t (*cues)[SPATZ_CUE_WORDS],
+                         size_t cue_rows, uint64_t (*regions)[SPATZ_REGION_WORDS], size_t region_rows,
+                         uint64_t (*styles)[SPATZ_STYLE_WORDS], size_t style_rows, uint64_t values[8]);
+
 /* Where the identifier of a cue stands in the text, and where its text stands. Accepted: from, to. Refused by 7, or by 8 with test 1. */
 uint64_t spatz_identifier(const uint8_t *text, size_t text_length, const uint64_t (*cues)[SPATZ_CUE_WORDS], size_t cue_rows,
                           size_t number, uint64_t values[8]);

@@ -107,7 +107,25 @@ impl File {
     /// # Ok::<(), spatzenherd::Refusal>(())
     /// ```
     pub fn read(raw: &[u8]) -> Result<File, Refusal> {
-        File::of_text(convert(raw)?)
+        let mut values = [0; 8];
+        let (mut cues, mut regions, mut styles) = (vec![], vec![], vec![]);
+        let mut text = vec![0; raw.len().min(crate::MAX_FILE)];
+        loop {
+            let number = lent::read_file(raw, &mut text, &mut cues, &mut regions, &mut styles, &mut values);
+            match number {
+                2 => text = vec![0; values[0] as usize],
+                6 => {
+                    cues = vec![[0; 17]; values[0] as usize];
+                    regions = vec![[0; 9]; values[1] as usize];
+                    styles = vec![[0; 2]; values[2] as usize];
+                }
+                _ => {
+                    accepted(number, &values)?;
+                    text.truncate(values[3] as usize);
+                    return Ok(File { text: plain_string(text), cues, regions, styles });
+                }
+            }
+        }
     }
 
     /// Reads a plain text. It is refused by 3 where it holds CR or NUL.

@@ -34,6 +34,19 @@ mod boundary {
             style_rows: usize,
             values: *mut Values,
         ) -> u64;
+        pub fn spatz_read_file(
+            raw: *const u8,
+            raw_length: usize,
+            text: *mut u8,
+            text_length: usize,
+            cues: *mut CueRow,
+            cue_rows: usize,
+            regions: *mut RegionRow,
+            region_rows: usize,
+            styles: *mut StyleRow,
+            style_rows: usize,
+            values: *mut Values,
+        ) -> u64;
         pub fn spatz_identifier(
             text: *const u8,
             text_length: usize,
@@ -122,6 +135,33 @@ pub fn read(text: &[u8], cues: &mut [CueRow], regions: &mut [RegionRow], styles:
     unsafe {
         boundary::spatz_read(
             text.as_ptr(),
+            text.len(),
+            cues.as_mut_ptr(),
+            cues.len(),
+            regions.as_mut_ptr(),
+            regions.len(),
+            styles.as_mut_ptr(),
+            styles.len(),
+            values,
+        )
+    }
+}
+
+/// Converting and reading in one call: a raw file's plain text goes to the start of `text`, its lists to the starts of the tables. Values: the
+/// counts of cues, regions and styles, and the text's length.
+pub fn read_file(
+    raw: &[u8],
+    text: &mut [u8],
+    cues: &mut [CueRow],
+    regions: &mut [RegionRow],
+    styles: &mut [StyleRow],
+    values: &mut Values,
+) -> u64 {
+    unsafe {
+        boundary::spatz_read_file(
+            raw.as_ptr(),
+            raw.len(),
+            text.as_mut_ptr(),
             text.len(),
             cues.as_mut_ptr(),
             cues.len(),

@@ -2,6 +2,7 @@
 // answer hands the number back and puts the values at the start of `values`; those that end with `number` hand back the number alone, for
 // programs that print it.
 use format::Converted;
+use format::FileReading;
 use format::PartAnswer;
 use format::Plainness;
 use format::Reading;
@@ -14,7 +15,7 @@ ghost use mathlib.Core.List.{[], _∷_};
 ghost use Rattle.format.specs.Answers.{refusalNumber, returned, withValues};
 ghost use Rattle.format.specs.Converting.{convertedIs, plainnessIs};
 ghost use Rattle.format.specs.Parts.{partAnswerIs};
-ghost use Rattle.format.specs.Reading.{readingIs};
+ghost use Rattle.format.specs.Reading.{readingIs, fileReadingIs};
 ghost use Rattle.format.specs.Replacing.{replacingIs};
 ghost use Rattle.format.specs.Rewriting.{rewritingIs};
 ghost use Rattle.format.specs.Trees.{treeIs};
@@ -42,6 +43,16 @@ fn put_3(values: &mut [u64; 8], a: usize, b: usize, c: usize)
     values[0] = a as u64;
     values[1] = b as u64;
     values[2] = c as u64;
+}
+
+// Four values.
+fn put_4(values: &mut [u64; 8], a: usize, b: usize, c: usize, d: usize)
+    ensures { λ _. ⌜ now (values .exit) ≡ withValues 0 (a ∷ b ∷ c ∷ d ∷ []) (now (values .entry)) ⌝ }
+{
+    values[0] = a as u64;
+    values[1] = b as u64;
+    values[2] = c as u64;
+    values[3] = d as u64;
 }
 
 pub fn converted(answer: Converted, values: &mut [u64; 8]) -> u64
@@ -95,6 +106,38 @@ pub fn reading(answer: Reading, values: &mut [u64; 8]) -> u64
         Reading::NoSignature => 4,
         Reading::OverLimit => 5,
         Reading::TablesTooShort {
+            cues,
+            regions,
+            styles,
+        } => {
+            put_3(values, cues, regions, styles);
+            6
+        }
+    }
+}
+
+pub fn file_reading(answer: FileReading, values: &mut [u64; 8]) -> u64
+    ensures number { λ r. ⌜ r ≡ refusalNumber (fileReadingIs answer) ⌝ }
+    ensures values { λ _. ⌜ now (values .exit) ≡ withValues 0 (returned (fileReadingIs answer)) (now (values .entry)) ⌝ }
+{
+    match answer {
+        FileReading::Lists {
+            cues,
+            regions,
+            styles,
+            text,
+        } => {
+            put_4(values, cues, regions, styles, text);
+            0
+        }
+        FileReading::RawTooLong => 1,
+        FileReading::RoomTooShort(n) => {
+            put_1(values, n);
+            2
+        }
+        FileReading::NoSignature => 4,
+        FileReading::OverLimit => 5,
+        FileReading::TablesTooShort {
             cues,
             regions,
             styles,

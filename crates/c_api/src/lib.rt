@@ -17,7 +17,7 @@ ghost use Rattle.format.specs.Lists.{lists};
 ghost use Rattle.format.specs.Rows.{cueRows, regionRows, styleRows, cueEntry};
 ghost use Rattle.format.specs.Answers.{refusalNumber, returned, withValues};
 ghost use Rattle.format.specs.Converting.{converting, convertedRoom, testing};
-ghost use Rattle.format.specs.Reading.{reading, afterReading};
+ghost use Rattle.format.specs.Reading.{reading, readingRaw, fileReading, afterReading};
 ghost use Rattle.format.specs.Trees.{treeing, treeRoom, treeTable};
 ghost use Rattle.format.specs.Writing.{writing, writtenRoom};
 ghost use Rattle.format.specs.Rewriting.{lengths, readingIn, rewriting, rewrittenRoom};
@@ -60,6 +60,27 @@ pub extern "C" fn spatz_read(
     ensures values { λ _. ⌜ now (values .exit) ≡ withValues 0 (returned (reading (now (text .entry)) (length (now (cues .entry))) (length (now (regions .entry))) (length (now (styles .entry))))) (now (values .entry)) ⌝ }
 {
     answers::reading(reader::read(text, cues, regions, styles), values)
+}
+
+// A raw file's plain text goes to `text`, its lists to the tables. Values: the counts of cues, regions and styles, and then the text's length;
+// for 2 the length needed, for 6 the counts. The text is left in its room after the refusals 4, 5 and 6.
+#[no_mangle]
+pub extern "C" fn spatz_read_file(
+    raw: &[u8],
+    text: &mut [u8],
+    cues: &mut [CueRow],
+    regions: &mut [RegionRow],
+    styles: &mut [StyleRow],
+    values: &mut [u64; 8],
+) -> u64
+    ensures number { λ r. ⌜ r ≡ refusalNumber (fileReading (now (raw .entry)) (length (now (text .entry))) (length (now (cues .entry))) (length (now (regions .entry))) (length (now (styles .entry)))) ⌝ }
+    ensures text { λ _. ⌜ now (text .exit) ≡ convertedRoom (now (raw .entry)) (now (text .entry)) ⌝ }
+    ensures cues { λ _. ⌜ now (cues .exit) ≡ afterReading (readingRaw (now (raw .entry)) (length (now (text .entry))) (length (now (cues .entry))) (length (now (regions .entry))) (length (now (styles .entry)))) (cueRows (lists (plainText (now (raw .entry))) .regions) (lists (plainText (now (raw .entry))) .cues)) (now (cues .entry)) ⌝ }
+    ensures regions { λ _. ⌜ now (regions .exit) ≡ afterReading (readingRaw (now (raw .entry)) (length (now (text .entry))) (length (now (cues .entry))) (length (now (regions .entry))) (length (now (styles .entry)))) (regionRows (lists (plainText (now (raw .entry))) .regions)) (now (regions .entry)) ⌝ }
+    ensures styles { λ _. ⌜ now (styles .exit) ≡ afterReading (readingRaw (now (raw .entry)) (length (now (text .entry))) (length (now (cues .entry))) (length (now (regions .entry))) (length (now (styles .entry)))) (styleRows (lists (plainText (now (raw .entry))) .styles)) (now (styles .entry)) ⌝ }
+    ensures values { λ _. ⌜ now (values .exit) ≡ withValues 0 (returned (fileReading (now (raw .entry)) (length (now (text .entry))) (length (now (cues .entry))) (length (now (regions .entry))) (length (now (styles .entry))))) (now (values .entry)) ⌝ }
+{
+    answers::file_reading(reader::read_file(raw, text, cues, regions, styles), values)
 }
 
 // The nodes of one cue's text go to the table, their strings to `room`. Values: rows and bytes used; for 2 the bytes, for 6 the rows needed.

@@ -68,6 +68,24 @@ impl Case {
         self.check("read: styles", styles.holds(&lists.styles), text);
     }
 
+    /// The text is left in its room after every refusal but 1 and 2.
+    pub fn read_file(&mut self, raw: &[u8], sizes: [usize; 4]) {
+        let text = papers::convert(raw, sizes[0]);
+        let expected = text.clone().and_then(|text| papers::read(&text, sizes[1], sizes[2], sizes[3]));
+        let random = &mut self.random;
+        let (mut room, mut cues) = (Lent::new(sizes[0], random), Lent::new(sizes[1], random));
+        let (mut regions, mut styles, mut values) = (Lent::new(sizes[2], random), Lent::new(sizes[3], random), Lent::values(random));
+        let number = lent::read_file(raw, room.slice(), cues.slice(), regions.slice(), styles.slice(), values.eight());
+        let text = text.unwrap_or_default();
+        let told = |lists: &Lists| [lists.cues.len(), lists.regions.len(), lists.styles.len(), text.len()].map(|n| n as u64).to_vec();
+        self.answer("read_file", raw, number, &values, expected.as_ref().map(told));
+        let lists = expected.unwrap_or(Lists { cues: vec![], regions: vec![], styles: vec![] });
+        self.check("read_file: text", room.holds(&text), raw);
+        self.check("read_file: cues", cues.holds(&lists.cues), raw);
+        self.check("read_file: regions", regions.holds(&lists.regions), raw);
+        self.check("read_file: styles", styles.holds(&lists.styles), raw);
+    }
+
     pub fn tree(&mut self, text: &[u8], room_length: usize, rows: usize) {
         let expected = papers::tree(text, room_length, rows);
         let (mut room, mut nodes) = (Lent::new(room_length, &mut self.random), Lent::new(rows, &mut self.random));
@@ -159,6 +177,11 @@ impl Case {
         self.read(&text, [cues.saturating_sub(1), regions + 1, styles]);
         self.read(&text, [cues + 2, regions.saturating_sub(1), styles + 1]);
         self.read(&text, [cues, regions, styles.saturating_sub(1)]);
+        for length in self.lengths(text.len()) {
+            self.read_file(raw, [length, cues, regions, styles]);
+        }
+        self.read_file(raw, [text.len(), cues / 2, regions, styles]);
+        self.read_file(raw, [text.len() + 1, cues + 1, regions.saturating_sub(1), styles + 1]);
         for row in lists.cues.iter().take(20) {
             self.tree_in_rooms(&text[row[4] as usize..row[5] as usize]);
         }

@@ -88,7 +88,17 @@ fn replacing(raw: &[u8], number: usize) -> f64 {
 }
 
 fn episodes() {
-    let columns = ["convert", "read", "convert and read", "write", "replace first", "replace middle", "replace last", "trees of all cues"];
+    let columns = [
+        "convert",
+        "read",
+        "convert and read",
+        "in one call",
+        "write",
+        "replace first",
+        "replace middle",
+        "replace last",
+        "trees of all cues",
+    ];
     heading("Episodes", &columns);
     for (name, length, line_end) in [
         ("50 KB, LF", 50_000, "\n"),
@@ -113,6 +123,9 @@ fn episode(name: &str, raw: &[u8]) {
         assert_eq!(lent::convert(raw, &mut room, &mut [0; 8]), 0);
         assert_eq!(file.read(), 0);
     });
+    let one_call = seconds(|| {
+        assert_eq!(lent::read_file(raw, &mut room, &mut file.cues, &mut file.regions, &mut file.styles, &mut [0; 8]), 0);
+    });
     let mut out = vec![0; MAX_FILE];
     let write = seconds(|| assert_eq!(lent::write(&file.text, &file.styles, &file.regions, &file.cues, &mut out, &mut [0; 8]), 0));
     let last = file.cues.len() - 1;
@@ -126,7 +139,7 @@ fn episode(name: &str, raw: &[u8]) {
     });
     let texts: u64 = file.cues.iter().map(|cue| cue[5] - cue[4]).sum();
     let trees = trees * raw.len() as f64 / texts as f64;
-    row(name, raw.len(), scanned, &[convert, read, both, write, replace[0], replace[1], replace[2], trees]);
+    row(name, raw.len(), scanned, &[convert, read, both, one_call, write, replace[0], replace[1], replace[2], trees]);
 }
 
 fn worst() {
