@@ -1,11 +1,12 @@
 // Bytes, numbers and times put into an output room. A room that is too short stores what fits; the place that each function hands back goes
 // on all the same, up to the first number above the greatest length of a file.
 ghost use mathlib.Core.Path.{_≡_};
-ghost use mathlib.Core.List.{[], _∷_};
-ghost use Prim.Native.Nat.{_+_, _/_, _%_, _^_, _<_, _≤_};
-ghost use lib.ListN.{set};
+ghost use mathlib.Core.List.{List, [], _∷_};
+ghost use Prim.Native.Nat.{ℕ, _+_, _/_, _%_, _^_, _<_, _≤_, min};
+ghost use lib.ListN.{length, set};
+ghost use Rattle.format.specs.Limits.{maxFile};
 ghost use Rattle.format.specs.Written.{lastDigits, atLeast, decimalIn, writtenTime, withoutZeros, fraction, writtenDecimal, writtenPercentage};
-ghost use Rattle.output.specs.Puts.{Puts};
+ghost use Rattle.output.specs.Puts.{placeAfter, Puts};
 
 // Stores a byte at a place; nothing outside the room.
 fn store(b: u8, out: &mut [u8], at: usize)
@@ -27,8 +28,43 @@ pub fn byte(b: u8, out: &mut [u8], at: usize) -> usize
     at
 }
 
-// A text.
-pub fn bytes(s: &[u8], out: &mut [u8], at: usize) -> usize
+// The place after so many bytes more.
+fn after(at: usize, len: usize) -> usize
+    ensures { λ r. ⌜ ((x : List ℕ) → length x ≡ len → r ≡ placeAfter at x) × (r ≤ maxFile → r ≡ at + len) ⌝ }
+{
+    if format::MAX_FILE < at {
+        return at;
+    }
+    if format::MAX_FILE - at < len {
+        return format::MAX_FILE + 1;
+    }
+    at + len
+}
+
+// The lesser of two numbers.
+fn lesser(a: usize, b: usize) -> usize
+    ensures { λ r. ⌜ r ≡ min a b ⌝ }
+{
+    if b < a {
+        return b;
+    }
+    a
+}
+
+// A text into a room of its own length.
+fn copy(s: &[u8], room: &mut [u8])
+    requires { ⌜ length (now s) ≡ length (now room) ⌝ }
+    ensures { λ _. ⌜ now (room .exit) ≡ now (s .entry) ⌝ }
+{
+    let mut i = 0;
+    while i < room.len() {
+        room[i] = s[i];
+        i += 1;
+    }
+}
+
+// A text byte by byte: the only way where the count stops inside the room, since each byte more then replaces the last.
+fn each_byte(s: &[u8], out: &mut [u8], at: usize) -> usize
     ensures { λ r. ⌜ Puts (now (s .entry)) at (now (out .entry)) r (now (out .exit)) ⌝ }
 {
     let mut i = 0;
@@ -38,6 +74,23 @@ pub fn bytes(s: &[u8], out: &mut [u8], at: usize) -> usize
         i += 1;
     }
     n
+}
+
+// A text. What of it lies outside the room costs no time.
+pub fn bytes(s: &[u8], out: &mut [u8], at: usize) -> usize
+    ensures { λ r. ⌜ Puts (now (s .entry)) at (now (out .entry)) r (now (out .exit)) ⌝ }
+{
+    let to = after(at, s.len());
+    if out.len() <= at {
+        return to;
+    }
+    if format::MAX_FILE < to {
+        return each_byte(s, out, at);
+    }
+    let end = lesser(to, out.len());
+    let fits = end - at;
+    copy(&s[..fits], &mut out[at..end]);
+    to
 }
 
 // A power of ten.

@@ -1,64 +1,107 @@
 -- `output::bytes` meets its contract.
 use native.Mathlib.Omega.{arith}
-use Prim.Native.Nat.{_≤_, _-_}
-use mathlib.Core.Path.{sym}
-use native.Mathlib.Numerals.{add-one}
-use lib.ListN.{length, take}
-use lib.Seq.{take-all, take-suc}
-use Rattle.output.specs.Puts.{Puts}
-use Rattle.output.proofs.PutLaws.{puts-none, puts-as, puts-length, _then_}
+use Prim.Native.Nat.{_+_, _-_}
+use mathlib.Core.Path.{_≡_, refl, sym, ap, _∙_}
+use mathlib.Core.List.{_++_, append-assoc}
+use lib.ListN.{length, take, drop, length-drop}
+use lib.Seq.{length-take-le}
+use borrow.Rule.Slice.PartMut.{post-is, putMid}
+use Rattle.output.proofs.PutLaws.{puts-outside, puts-cut}
 use borrow.Author.Needs.{needs}
 use Rattle.output.proofs.bytes.Statement.{statement}
 use Rattle.output.proofs.bytes.Tie as tie
 
-abbrev Inv-loop : tie.InvT-loop
-Inv-loop s out₀ at i₀ n₀ out i n = (i ≤ length s) × (Puts (take i s) at out₀ n out)
+-- where the count does not stop, the place is the sum
+counted : (c : tie.After-lesser) → let called = c .before .before .before in
+    let args = called .before .before .before .args in called .after .result ≡ args .at + length (args .s .now)
+counted c = c .before .before .before .after .ensures .1 (c .before .if2 .left)
 
-abbrev μ-loop : tie.MeasureT-loop
-μ-loop s out₀ at i₀ n₀ out i n = length s - i
+-- what fits of the text is as long as its part of the room
+cut : (c : tie.After-lesser) → let args = c .before .before .before .before .before .before .args in
+    length (take (c .lesser .result - args .at) (args .s .now)) ≡ c .lesser .result - args .at
+cut c =
+    let args = c .before .before .before .before .before .before .args in
+    length-take-le (c .lesser .result - args .at) (args .s .now) (omega (arith, counted c))
 
-loop-holds : tie.Need-loop-holds Inv-loop μ-loop
-loop-holds c = let args = c .before .before .args in (omega arith, puts-none (args .at) (args .out .now))
+after-requires : tie.Need-after-requires
+after-requires c κs = search needs
 
-shared-slice-read-byte : tie.Need-shared-slice-read-byte Inv-loop μ-loop
-shared-slice-read-byte c = omega arith
-
-byte-requires : tie.Need-byte-requires Inv-loop μ-loop
-byte-requires c κs = search needs
-
-add-i : tie.Need-add-i Inv-loop μ-loop
-add-i c = omega arith
-
-loop-less : tie.Need-loop-less Inv-loop μ-loop
-loop-less c = omega arith
-
-loop-again : tie.Need-loop-again Inv-loop μ-loop
-loop-again c =
-    let put = c .before .before in
-    let at = put .before .before .before .before in
-    let s = at .before .before .before .args .s .now in
-    let i = at .loop .i in
-    (omega arith, rw (add-one i) (puts-as (sym (take-suc s i 0 (omega arith))) (at .loop .inv .1 then put .byte .ensures)))
-
-same-length : tie.Need-same-length Inv-loop μ-loop
-same-length c = puts-length (c .before .loop .inv .1)
-
-returns : tie.Need-returns Inv-loop μ-loop
+returns : tie.Need-returns
 returns c =
-    let at = c .before in
-    puts-as (take-all (at .loop .i) (at .before .before .before .args .s .now) (omega arith)) (at .loop .inv .1)
+    let called = c .before in
+    let args = called .before .before .before .args in
+    puts-outside (called .after .ensures .0 (args .s .now) refl) (omega arith)
+
+each-byte-requires : tie.Need-each-byte-requires
+each-byte-requires c κs = search needs
+
+same-length : tie.Need-same-length
+same-length c = search needs
+
+returns-2 : tie.Need-returns-2
+returns-2 c = search needs
+
+lesser-requires : tie.Need-lesser-requires
+lesser-requires c κs = search needs
+
+sub-fits : tie.Need-sub-fits
+sub-fits c = omega (arith, counted c)
+
+slice-aggregate-copy : tie.Need-slice-aggregate-copy
+slice-aggregate-copy c = sym (cut (c .before))
+
+sub-copy : tie.Need-sub-copy
+sub-copy c = omega (arith, counted (c .before))
+
+part-copy-start : tie.Need-part-copy-start
+part-copy-start c = omega (arith, counted (c .before))
+
+part-copy-end : tie.Need-part-copy-end
+part-copy-end c = search needs
+
+copy-requires : tie.Need-copy-requires
+copy-requires c κs =
+    let at = c .before .before in
+    let args = at .before .before .before .before .before .before .args in
+    let sum = counted at in
+    let part = length-drop (args .at) (args .out .now) in
+    cut at ∙ sym (length-take-le (at .lesser .result - args .at) (drop (args .at) (args .out .now)) (omega arith))
+
+same-length-2 : tie.Need-same-length-2
+same-length-2 c = search needs
+
+returns-3 : tie.Need-returns-3
+returns-3 c =
+    let put = c .before .before in
+    let at = put .before .before .before in
+    let called = at .before .before .before in
+    let args = called .before .before .before .args in
+    let s = args .s .now in
+    let out = args .out .now in
+    let sum = counted at in
+    let end = at .lesser .result in
+    let room =
+    ap (putMid (args .at) (end - args .at) out) (put .copy .ensures)
+    ∙ sym (append-assoc (take (args .at) out) _ _)
+    ∙ ap (λ r. take (args .at) out ++ take (end - args .at) s ++ r) (post-is (args .at) end out (omega arith)) in
+    rw room
+    (puts-cut s out (args .at) end (called .after .result) sum (omega arith) (omega arith) (omega arith) (omega arith) (λ h. omega arith))
 
 pub bytes-spec : {M : Type 1} → statement M
 bytes-spec =
     tie.close
     (tie.spec
-    Inv-loop
-    μ-loop
-    loop-holds
-    shared-slice-read-byte
-    byte-requires
-    add-i
-    loop-less
-    loop-again
+    after-requires
+    returns
+    each-byte-requires
     same-length
-    returns)
+    returns-2
+    lesser-requires
+    sub-fits
+    slice-aggregate-copy
+    sub-copy
+    part-copy-start
+    part-copy-end
+    copy-requires
+    same-length-2
+    returns-3)
