@@ -4,13 +4,14 @@ use mathlib.Core.Path.{_≡_, refl, sym, ap, _∙_}
 use mathlib.Core.Bool.{false}
 use mathlib.Core.List.{List, [], _∷_, _++_}
 use native.Mathlib.Omega.{arith}
-use native.Mathlib.Nat.{div-one, div-div-eq-div-mul, pow-succ'}
+use native.Mathlib.Nat.{add-zero, add-suc, div-one, zero-div, div-div-eq-div-mul, pow-suc, pow-succ'}
+use lib.Pow.{pow-add}
 use lib.Dec.{eqb, leb}
-use borrow.Author.Tests.{le-leb, lt-leb, ne-eqb}
+use borrow.Author.Tests.{le-leb, leb-true, ne-eqb}
 use Rattle.format.specs.Texts.{isEmpty}
 use Rattle.format.specs.Bytes.{fullStop}
 use Rattle.format.specs.Written.{lastDigits, atLeast, onDigit, withoutZeros, fraction}
-use Rattle.laws.proofs.Tests.{and-false}
+use Rattle.laws.proofs.Tests.{and-false, by-test}
 use Rattle.roundtrip.proofs.Numbers.{digits-length}
 
 -- the first of k + 1 digits
@@ -21,35 +22,46 @@ digits-first (suc k) n =
     let e : n / 10 / 10 ^ k ≡ n / 10 ^ suc k = div-div-eq-div-mul n 10 (10 ^ k) ∙ ap (λ p. n / p) (sym (pow-succ' 10 k)) in
     ap (λ ds. ds ++ (0x30 + n % 10) ∷ []) (digits-first k (n / 10)) ∙ rw e refl
 
-abbrev pub firstDigit : ℕ → ℕ → ℕ
-firstDigit w n = 0x30 + n / 10 ^ (w - 1) % 10
-
-pub digits-first-of : (w n : ℕ) → 0 < w → lastDigits w n ≡ firstDigit w n ∷ lastDigits (w - 1) n
+pub digits-first-of : (w n : ℕ) → 0 < w → lastDigits w n ≡ (0x30 + n / 10 ^ (w - 1) % 10) ∷ lastDigits (w - 1) n
 digits-first-of zero n h = absurd (omega arith)
 digits-first-of (suc k) n h = let e : suc k - 1 ≡ k = omega arith in rw e (digits-first k n)
 
+-- one digit more is cut off
+pub over-ten : (n k : ℕ) → n / 10 ^ k / 10 ≡ n / 10 ^ suc k
+over-ten n k = div-div-eq-div-mul n (10 ^ k) 10 ∙ ap (λ p. n / p) (sym (pow-suc 10 k))
+
 -- zeros at the start: digits beyond the least count are dropped while they are zeros
-pub zero-dropped :
-    (least w n : ℕ) → least < w → firstDigit w n ≡ 0x30 → atLeast least (lastDigits w n) ≡ atLeast least (lastDigits (w - 1) n)
-unfolding atLeast
-zero-dropped least w n h e =
-    rw (digits-first-of w n (omega arith), e, digits-length (w - 1) n, le-leb least (w - 1) (omega arith)) refl
+zeros-above : (w k n : ℕ) → n / 10 ^ w ≡ 0 → n / 10 ^ (w + k) ≡ 0
+zeros-above w k n z =
+    ap (λ p. n / p) (pow-add 10 w k) ∙ sym (div-div-eq-div-mul n (10 ^ w) (10 ^ k)) ∙ ap (λ m. m / 10 ^ k) z ∙ zero-div (10 ^ k)
 
-pub digit-kept : (least w n : ℕ) → least < w → (firstDigit w n ≡ 0x30 → ⊥) → atLeast least (lastDigits w n) ≡ lastDigits w n
+zeros-before : (least w k n : ℕ) → least ≤ w → n / 10 ^ w ≡ 0 → atLeast least (lastDigits (w + k) n) ≡ atLeast least (lastDigits w n)
 unfolding atLeast
-digit-kept least w n l h =
-    rw (digits-first-of w n (omega arith), ne-eqb (firstDigit w n) 0x30 h) refl
+zeros-before least w zero n h z = rw (add-zero w) refl
+zeros-before least w (suc k) n h z =
+    rw (add-suc w k, digits-first (w + k) n, zeros-above w k n z, digits-length (w + k) n, le-leb least (w + k) (omega arith))
+    (zeros-before least w k n h z)
 
+pub zeros-dropped : (least w m n : ℕ) → least ≤ w → w ≤ m → n / 10 ^ w ≡ 0 → atLeast least (lastDigits m n) ≡ atLeast least (lastDigits w n)
+zeros-dropped least w m n h l z =
+    let e : w + (m - w) ≡ m = omega arith in
+    ap (λ k. atLeast least (lastDigits k n)) (sym e) ∙ zeros-before least w (m - w) n h z
+
+-- and so many digits are kept as no lesser count would do for
 none-kept : (least n : ℕ) → atLeast least (lastDigits 0 n) ≡ lastDigits 0 n
 unfolding atLeast lastDigits
 none-kept least n = refl
 
-pub all-kept : (least k n : ℕ) → k ≤ least → atLeast least (lastDigits k n) ≡ lastDigits k n
+pub all-kept :
+    (least w n : ℕ) → n / 10 ^ w ≡ 0 → ((k : ℕ) → k < w → least ≤ k → n / 10 ^ k ≡ 0 → ⊥) → atLeast least (lastDigits w n) ≡ lastDigits w n
 unfolding atLeast
-all-kept least zero n h = none-kept least n
-all-kept least (suc k) n h =
-    let short : leb least k ≡ false = lt-leb least k (omega arith) in
-    rw (digits-first k n, digits-length k n, short, and-false (eqb (0x30 + n / 10 ^ k % 10) 0x30) false refl) refl
+all-kept least zero n z h = none-kept least n
+all-kept least (suc k) n z h =
+    let d = 0x30 + n / 10 ^ k % 10 in
+    by-test (leb least k)
+    (λ y. let other = h k (omega arith) (leb-true least k y) in
+    rw (digits-first k n, ne-eqb d 0x30 (λ e. other (omega (arith, over-ten n k)))) refl)
+    (λ short. rw (digits-first k n, digits-length k n, short, and-false (eqb d 0x30) false refl) refl)
 
 -- zeros at the end
 last-zero : (ds : List ℕ) → withoutZeros (ds ++ 0x30 ∷ []) ≡ withoutZeros ds
@@ -83,7 +95,8 @@ end-kept (suc k) n l h = last-other (lastDigits k (n / 10)) (0x30 + n % 10) (ne-
 -- the fraction that digits give, where there are any
 pub fraction-some : (k n : ℕ) → 0 < k → fraction (lastDigits k n) ≡ fullStop ∷ lastDigits k n
 unfolding fraction
-fraction-some k n h = rw (digits-first-of k n h) refl
+fraction-some zero n h = absurd (omega arith)
+fraction-some (suc k) n h = rw (digits-first k n) refl
 
 pub fraction-none : (n : ℕ) → fraction (withoutZeros (lastDigits 0 n)) ≡ []
 unfolding fraction withoutZeros lastDigits

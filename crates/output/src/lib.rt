@@ -135,12 +135,16 @@ fn digits(k: usize, n: u64, out: &mut [u8], at: usize) -> usize
 fn width(least: usize, n: u64) -> usize
     ensures { λ r. ⌜ (r ≤ 20) × (atLeast least (lastDigits 20 n) ≡ lastDigits r n) ⌝ }
 {
-    let mut w: usize = 20;
-    while least < w {
-        if digit(n, w - 1) != b'0' {
-            return w;
+    let mut w: usize = 0;
+    let mut rest = n;
+    while w < 20 {
+        if least <= w {
+            if rest == 0 {
+                return w;
+            }
         }
-        w -= 1;
+        rest /= 10;
+        w += 1;
     }
     w
 }
