@@ -15,16 +15,12 @@ use Rattle.laws.proofs.Tests.{and-false, by-test}
 use Rattle.roundtrip.proofs.Numbers.{digits-length}
 
 -- the first of k + 1 digits
-pub digits-first : (k n : ℕ) → lastDigits (suc k) n ≡ (0x30 + n / 10 ^ k % 10) ∷ lastDigits k n
+digits-first : (k n : ℕ) → lastDigits (suc k) n ≡ (0x30 + n / 10 ^ k % 10) ∷ lastDigits k n
 unfolding lastDigits
 digits-first zero n = ap (λ m. (0x30 + m % 10) ∷ []) (sym (div-one n))
 digits-first (suc k) n =
     let e : n / 10 / 10 ^ k ≡ n / 10 ^ suc k = div-div-eq-div-mul n 10 (10 ^ k) ∙ ap (λ p. n / p) (sym (pow-succ' 10 k)) in
     ap (λ ds. ds ++ (0x30 + n % 10) ∷ []) (digits-first k (n / 10)) ∙ rw e refl
-
-pub digits-first-of : (w n : ℕ) → 0 < w → lastDigits w n ≡ (0x30 + n / 10 ^ (w - 1) % 10) ∷ lastDigits (w - 1) n
-digits-first-of zero n h = absurd (omega arith)
-digits-first-of (suc k) n h = let e : suc k - 1 ≡ k = omega arith in rw e (digits-first k n)
 
 -- one digit more is cut off
 pub over-ten : (n k : ℕ) → n / 10 ^ k / 10 ≡ n / 10 ^ suc k
@@ -59,8 +55,9 @@ all-kept least zero n z h = none-kept least n
 all-kept least (suc k) n z h =
     let d = 0x30 + n / 10 ^ k % 10 in
     by-test (leb least k)
-    (λ y. let other = h k (omega arith) (leb-true least k y) in
-    rw (digits-first k n, ne-eqb d 0x30 (λ e. other (omega (arith, over-ten n k)))) refl)
+    (λ long.
+    let other = ne-eqb d 0x30 (λ e. h k (omega arith) (leb-true least k long) (omega (arith, over-ten n k))) in
+    rw (digits-first k n, other) refl)
     (λ short. rw (digits-first k n, digits-length k n, short, and-false (eqb d 0x30) false refl) refl)
 
 -- zeros at the end

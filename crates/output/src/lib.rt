@@ -2,10 +2,11 @@
 // on all the same, up to the first number above the greatest length of a file.
 ghost use mathlib.Core.Path.{_≡_};
 ghost use mathlib.Core.List.{List, [], _∷_};
-ghost use Prim.Native.Nat.{ℕ, _+_, _/_, _%_, _^_, _<_, _≤_, min};
+ghost use Prim.Native.Nat.{ℕ, _+_, _≤_, min};
 ghost use lib.ListN.{length, set};
 ghost use Rattle.format.specs.Limits.{maxFile};
-ghost use Rattle.format.specs.Written.{lastDigits, atLeast, decimalIn, writtenTime, withoutZeros, fraction, writtenDecimal, writtenPercentage};
+ghost use Rattle.format.specs.Written.{lastDigits, atLeast, decimalIn, withoutZeros, fraction};
+ghost use Rattle.format.specs.Written.{writtenTime, writtenDecimal, writtenPercentage};
 ghost use Rattle.output.specs.Puts.{placeAfter, Puts};
 
 // Stores a byte at a place; nothing outside the room.
@@ -93,42 +94,20 @@ pub fn bytes(s: &[u8], out: &mut [u8], at: usize) -> usize
     to
 }
 
-// A power of ten.
-fn power(k: usize) -> u64
-    requires { ⌜ k < 20 ⌝ }
-    ensures { λ r. ⌜ r ≡ 10 ^ k ⌝ }
-{
-    let mut p = 1;
-    let mut i = 0;
-    while i < k {
-        p *= 10;
-        i += 1;
-    }
-    p
-}
-
-// The digit of a number that has `k` digits after it.
-fn digit(n: u64, k: usize) -> u8
-    requires { ⌜ k < 20 ⌝ }
-    ensures { λ r. ⌜ r ≡ 0x30 + n / 10 ^ k % 10 ⌝ }
-{
-    let p = power(k);
-    let d = n / p % 10;
-    b'0' + d as u8
-}
-
-// The last `k` digits of a number.
+// The last `k` digits of a number, made from the last one on.
 fn digits(k: usize, n: u64, out: &mut [u8], at: usize) -> usize
     requires { ⌜ k ≤ 20 ⌝ }
     ensures { λ r. ⌜ Puts (lastDigits k n) at (now (out .entry)) r (now (out .exit)) ⌝ }
 {
+    let mut made = [0u8; 20];
     let mut left = k;
-    let mut to = at;
+    let mut rest = n;
     while 0 < left {
         left -= 1;
-        to = byte(digit(n, left), out, to);
+        made[left] = b'0' + (rest % 10) as u8;
+        rest /= 10;
     }
-    to
+    bytes(&made[..k], out, at)
 }
 
 // How many digits a number has, `least` of them counted where it has fewer.

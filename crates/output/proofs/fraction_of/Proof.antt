@@ -42,7 +42,8 @@ returns c =
     let at = dot .before .before .before .before in
     let args = at .before .before .args in
     let e = at .loop .inv .2 ∙ end-kept (at .loop .k) (at .loop .rest) (omega arith) (dot .before .before .if1 .taken) in
-    puts-as (sym (ap fraction e ∙ fraction-some (at .loop .k) (at .loop .rest) (omega arith))) (byte-then (puts-from (at .loop .inv .1) (dot .byte .ensures)) (put .digits .ensures))
+    let some = ap fraction e ∙ fraction-some (at .loop .k) (at .loop .rest) (omega arith) in
+    puts-as (sym some) (byte-then (puts-from (at .loop .inv .1) (dot .byte .ensures)) (put .digits .ensures))
 
 sub-k : tie.Need-sub-k Inv-loop μ-loop
 sub-k c = omega arith
@@ -63,7 +64,8 @@ returns-2 c =
     let at = c .before in
     let args = at .before .before .args in
     let e : at .loop .k ≡ 0 = omega arith in
-    let nothing = ap fraction (at .loop .inv .2 ∙ ap (λ k. withoutZeros (lastDigits k (at .loop .rest))) e) ∙ fraction-none (at .loop .rest) in
+    let none = at .loop .inv .2 ∙ ap (λ k. withoutZeros (lastDigits k (at .loop .rest))) e in
+    let nothing = ap fraction none ∙ fraction-none (at .loop .rest) in
     puts-as (sym nothing) (puts-from (at .loop .inv .1) (puts-none (args .at) (at .loop .out)))
 
 pub fraction-of-spec : {M : Type 1} → statement M
