@@ -1,10 +1,10 @@
 -- Laws of putting bytes: one text after another, and what a room holds in the end.
-use Prim.Native.Nat.{ℕ, suc, _+_, _≤_, _<_, _-_}
+use Prim.Native.Nat.{ℕ, suc, _+_, _≤_, _<_}
 use mathlib.Core.Path.{_≡_, refl, sym, ap, _∙_}
 use mathlib.Core.List.{List, [], _∷_, _++_}
 use native.Mathlib.Omega.{arith}
 use lib.Dec.{ltb}
-use lib.ListN.{length, take, drop, set, length-set, length-drop, take-append-drop, drop-of-length-le}
+use lib.ListN.{length, take, drop, set, length-set, length-drop, take-append-drop}
 use lib.Seq.{sets, sets-eq, set-out, length-take-le}
 use borrow.Author.Tests.{lt-ltb, le-ltb, ltb-true, ltb-false}
 use Rattle.format.specs.Limits.{maxFile}
@@ -120,32 +120,25 @@ room-outside at (b ∷ x) out h =
 pub puts-outside : {x out : List ℕ} {at n : ℕ} → n ≡ placeAfter at x → length out ≤ at → Puts x at out n out
 puts-outside {x} {out} {at} {n} e h = record { place = e; holds = sym (room-outside at x out h) }
 
--- and one that begins within it stands there as far as the room goes
-module _ (x out : List ℕ) (at end n : ℕ) (e : n ≡ at + length x) (m : n ≤ maxFile) (h : at ≤ end) (l : end ≤ n) (r : end ≤ length out) where
-  here : Puts (take (end - at) x) at out end (take at out ++ take (end - at) x ++ drop end out)
-  here =
-      let y = take (end - at) x in
-      let k : length y ≡ end - at = length-take-le (end - at) x (omega arith) in
-      let s : at + length y ≡ end = omega arith in
-      record {
-        place = omega (arith, place-within at y (omega arith));
-        holds = sym (room-within at y out (omega arith) ∙ sets-eq y out at (omega arith) ∙ ap (λ j. take at out ++ y ++ drop j out) s);
-      }
+-- one that ends within the room stands there, and of one that ends beyond it what fits
+pub puts-whole :
+    (x out : List ℕ) (at n : ℕ) → n ≡ at + length x → n ≤ maxFile → n ≤ length out → Puts x at out n (take at out ++ x ++ drop n out)
+puts-whole x out at n e m l =
+    record {
+      place = omega (arith, place-within at x (omega arith));
+      holds = sym (room-within at x out (omega arith) ∙ sets-eq x out at (omega arith) ∙ ap (λ j. take at out ++ x ++ drop j out) (sym e));
+    }
 
-  beyond : (o : List ℕ) → length o ≡ length out → (end < n → end ≡ length out) → Puts (drop (end - at) x) end o n o
-  unfolding roomWith
-  beyond o s w =
-      let y = drop (end - at) x in
-      let k : length y ≡ n - end = length-drop (end - at) x ∙ omega arith in
-      let p : n ≡ placeAfter end y = omega (arith, place-within end y (omega arith)) in
-      by-test (ltb end n)
-      (λ more. let f = w (ltb-true end n more) in puts-outside p (omega arith))
-      (λ no.
-      let none : y ≡ [] = drop-of-length-le x {i = end - at} (omega (arith, ltb-false end n no)) in
-      record { place = p; holds = rw none refl })
-
-  pub puts-cut : (end < n → end ≡ length out) → Puts x at out n (take at out ++ take (end - at) x ++ drop end out)
-  puts-cut w = puts-as (take-append-drop (end - at) x) (here then beyond _ (puts-length here) w)
+pub puts-part :
+    (x out : List ℕ) (at k n : ℕ)
+    → n ≡ at + length x → n ≤ maxFile → at + k ≡ length out → length out ≤ n
+    → Puts x at out n (take at out ++ take k x ++ drop (length out) out)
+puts-part x out at k n e m h l =
+    let fits = length-take-le k x (omega arith) in
+    let rest = length-drop k x in
+    let start = puts-whole (take k x) out at (length out) (omega arith) (omega arith) (omega arith) in
+    let place = place-within (length out) (drop k x) (omega arith) in
+    puts-as (take-append-drop k x) (start then puts-outside (omega arith) (omega (arith, puts-length start)))
 
 -- what was put from the start: its length is told exactly unless it is above the greatest length of a file, and then that is told
 pub measured : {x out o : List ℕ} {n : ℕ} → Puts x 0 out n o → length x ≤ maxFile → n ≡ length x

@@ -2,7 +2,7 @@
 // on all the same, up to the first number above the greatest length of a file.
 ghost use mathlib.Core.Path.{_≡_};
 ghost use mathlib.Core.List.{List, [], _∷_};
-ghost use Prim.Native.Nat.{ℕ, _+_, _≤_, min};
+ghost use Prim.Native.Nat.{ℕ, _+_, _≤_};
 ghost use lib.ListN.{length, set};
 ghost use Rattle.format.specs.Limits.{maxFile};
 ghost use Rattle.format.specs.Written.{lastDigits, atLeast, decimalIn, withoutZeros, fraction};
@@ -42,23 +42,13 @@ fn after(at: usize, len: usize) -> usize
     at + len
 }
 
-// The lesser of two numbers.
-fn lesser(a: usize, b: usize) -> usize
-    ensures { λ r. ⌜ r ≡ min a b ⌝ }
-{
-    if b < a {
-        return b;
-    }
-    a
-}
-
 // A text into a room of its own length.
 fn copy(s: &[u8], room: &mut [u8])
     requires { ⌜ length (now s) ≡ length (now room) ⌝ }
     ensures { λ _. ⌜ now (room .exit) ≡ now (s .entry) ⌝ }
 {
     let mut i = 0;
-    while i < room.len() {
+    while i < s.len() {
         room[i] = s[i];
         i += 1;
     }
@@ -88,9 +78,12 @@ pub fn bytes(s: &[u8], out: &mut [u8], at: usize) -> usize
     if format::MAX_FILE < to {
         return each_byte(s, out, at);
     }
-    let end = lesser(to, out.len());
-    let fits = end - at;
-    copy(&s[..fits], &mut out[at..end]);
+    if to <= out.len() {
+        copy(s, &mut out[at..to]);
+        return to;
+    }
+    let fits = out.len() - at;
+    copy(&s[..fits], &mut out[at..]);
     to
 }
 

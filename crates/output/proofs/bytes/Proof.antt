@@ -6,22 +6,15 @@ use mathlib.Core.List.{_++_, append-assoc}
 use lib.ListN.{length, take, drop, length-drop}
 use lib.Seq.{length-take-le}
 use borrow.Rule.Slice.PartMut.{post-is, putMid}
-use Rattle.output.proofs.PutLaws.{puts-outside, puts-cut}
+use Rattle.output.proofs.PutLaws.{puts-outside, puts-whole, puts-part}
 use borrow.Author.Needs.{needs}
 use Rattle.output.proofs.bytes.Statement.{statement}
 use Rattle.output.proofs.bytes.Tie as tie
 
 -- where the count does not stop, the place is the sum
-counted : (c : tie.After-lesser) → let called = c .before .before .before in
+counted : (c : tie.Else2) → let called = c .before .before in
     let args = called .before .before .before .args in called .after .result ≡ args .at + length (args .s .now)
-counted c = c .before .before .before .after .ensures .1 (c .before .if2 .left)
-
--- what fits of the text is as long as its part of the room
-cut : (c : tie.After-lesser) → let args = c .before .before .before .before .before .before .args in
-    length (take (c .lesser .result - args .at) (args .s .now)) ≡ c .lesser .result - args .at
-cut c =
-    let args = c .before .before .before .before .before .before .args in
-    length-take-le (c .lesser .result - args .at) (args .s .now) (omega (arith, counted c))
+counted c = c .before .before .after .ensures .1 (c .if2 .left)
 
 after-requires : tie.Need-after-requires
 after-requires c κs = search needs
@@ -41,15 +34,6 @@ same-length c = search needs
 returns-2 : tie.Need-returns-2
 returns-2 c = search needs
 
-lesser-requires : tie.Need-lesser-requires
-lesser-requires c κs = search needs
-
-sub-fits : tie.Need-sub-fits
-sub-fits c = omega (arith, counted c)
-
-slice-aggregate-copy : tie.Need-slice-aggregate-copy
-slice-aggregate-copy c = sym (cut (c .before))
-
 sub-copy : tie.Need-sub-copy
 sub-copy c = omega (arith, counted (c .before))
 
@@ -61,11 +45,12 @@ part-copy-end c = search needs
 
 copy-requires : tie.Need-copy-requires
 copy-requires c κs =
-    let at = c .before .before in
-    let args = at .before .before .before .before .before .before .args in
-    let sum = counted at in
+    let on = c .before .before in
+    let called = on .before .before in
+    let args = called .before .before .before .args in
+    let sum = counted on in
     let part = length-drop (args .at) (args .out .now) in
-    cut at ∙ sym (length-take-le (at .lesser .result - args .at) (drop (args .at) (args .out .now)) (omega arith))
+    sym (length-take-le (called .after .result - args .at) (drop (args .at) (args .out .now)) (omega arith) ∙ omega arith)
 
 same-length-2 : tie.Need-same-length-2
 same-length-2 c = search needs
@@ -73,19 +58,64 @@ same-length-2 c = search needs
 returns-3 : tie.Need-returns-3
 returns-3 c =
     let put = c .before .before in
-    let at = put .before .before .before in
-    let called = at .before .before .before in
+    let on = put .before .before .before in
+    let called = on .before .before in
     let args = called .before .before .before .args in
     let s = args .s .now in
     let out = args .out .now in
-    let sum = counted at in
-    let end = at .lesser .result in
+    let to = called .after .result in
+    let sum = counted on in
     let room =
-    ap (putMid (args .at) (end - args .at) out) (put .copy .ensures)
+    ap (putMid (args .at) (to - args .at) out) (put .copy .ensures)
     ∙ sym (append-assoc (take (args .at) out) _ _)
-    ∙ ap (λ r. take (args .at) out ++ take (end - args .at) s ++ r) (post-is (args .at) end out (omega arith)) in
-    rw room
-    (puts-cut s out (args .at) end (called .after .result) sum (omega arith) (omega arith) (omega arith) (omega arith) (λ h. omega arith))
+    ∙ ap (λ r. take (args .at) out ++ s ++ r) (post-is (args .at) to out (omega arith)) in
+    rw room (puts-whole s out (args .at) to sum (omega arith) (omega arith))
+
+sub-fits : tie.Need-sub-fits
+sub-fits c = search needs
+
+slice-aggregate-copy : tie.Need-slice-aggregate-copy
+slice-aggregate-copy c =
+    let on = c .before .before in
+    let args = on .before .before .before .before .before .args in
+    sym (length-take-le (length (args .out .now) - args .at) (args .s .now) (omega (arith, counted on)))
+
+sub-copy-2 : tie.Need-sub-copy-2
+sub-copy-2 c = search needs
+
+part-copy-start-2 : tie.Need-part-copy-start-2
+part-copy-start-2 c = search needs
+
+part-copy-end-2 : tie.Need-part-copy-end-2
+part-copy-end-2 c = search needs
+
+copy-requires-2 : tie.Need-copy-requires-2
+copy-requires-2 c κs =
+    let on = c .before .before .before in
+    let args = on .before .before .before .before .before .args in
+    let fits = length (args .out .now) - args .at in
+    let sum = counted on in
+    let part = length-drop (args .at) (args .out .now) in
+    length-take-le fits (args .s .now) (omega arith) ∙ sym (length-take-le fits (drop (args .at) (args .out .now)) (omega arith))
+
+same-length-3 : tie.Need-same-length-3
+same-length-3 c = search needs
+
+returns-4 : tie.Need-returns-4
+returns-4 c =
+    let put = c .before .before in
+    let on = put .before .before .before .before in
+    let called = on .before .before in
+    let args = called .before .before .before .args in
+    let s = args .s .now in
+    let out = args .out .now in
+    let fits = length out - args .at in
+    let sum = counted on in
+    let room =
+    ap (putMid (args .at) fits out) (put .copy2 .ensures)
+    ∙ sym (append-assoc (take (args .at) out) _ _)
+    ∙ ap (λ r. take (args .at) out ++ take fits s ++ r) (post-is (args .at) (length out) out (omega arith)) in
+    rw room (puts-part s out (args .at) fits (called .after .result) sum (omega arith) (omega arith) (omega arith))
 
 pub bytes-spec : {M : Type 1} → statement M
 bytes-spec =
@@ -96,12 +126,17 @@ bytes-spec =
     each-byte-requires
     same-length
     returns-2
-    lesser-requires
-    sub-fits
-    slice-aggregate-copy
     sub-copy
     part-copy-start
     part-copy-end
     copy-requires
     same-length-2
-    returns-3)
+    returns-3
+    sub-fits
+    slice-aggregate-copy
+    sub-copy-2
+    part-copy-start-2
+    part-copy-end-2
+    copy-requires-2
+    same-length-3
+    returns-4)
