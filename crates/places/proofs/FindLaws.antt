@@ -36,7 +36,7 @@ use Rattle.places.specs.Places.{OwnLines}
 use Rattle.places.specs.Finding.{withItem, FoundIn}
 
 -- a text has one line more than LF
-ends-split : (x : List ℕ) → length (split x) ≡ suc (lineEnds x)
+pub ends-split : (x : List ℕ) → length (split x) ≡ suc (lineEnds x)
 unfolding lineEnds splitAt before onFirst
 ends-split [] = refl
 ends-split (b ∷ x) =

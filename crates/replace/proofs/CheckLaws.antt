@@ -1,51 +1,99 @@
 -- Laws of replacing's checks: the gap before a cue, what the number of the new cue's test says, and one check before another.
-use Prim.Native.Nat.{ℕ, _+_, _-_, _≤_, _<_}
+use Prim.Native.Nat.{ℕ, zero, suc, _+_, _-_, _≤_, _<_}
 use mathlib.Core.Path.{_≡_, refl, sym, ap, _∙_}
-use mathlib.Core.Bool.{Bool, true, false, not, _&&_}
-use mathlib.Core.List.{List, [], _∷_}
+use mathlib.Core.Bool.{Bool, true, false, cond, not, _&&_}
+use mathlib.Core.List.{List, [], _∷_, _++_}
 use mathlib.Core.Option.{Option, none, some}
+use native.Mathlib.Numerals.{add-one}
 use native.Mathlib.Omega.{arith}
 use lib.Dec.{eqb}
-use lib.ListN.{length, getD, take, List·getD-map}
-use borrow.Author.Tests.{eq-eqb, ne-eqb, lt-ltb, le-ltb}
+use lib.ListN.{length, getD, take, drop}
+use lib.Seq.{drop-cons, split-at, getD-at}
+use borrow.Author.Tests.{eqb-true, lt-ltb, le-ltb}
+use Rattle.format.specs.Bytes.{lf}
 use Rattle.format.specs.Texts.{isEmpty}
-use Rattle.format.specs.Plain.{plainText, Plain}
-use Rattle.format.specs.Lines.{split}
+use Rattle.format.specs.Plain.{plainText}
+use Rattle.format.specs.Lines.{onFirst, before, splitAt, split}
 use Rattle.format.specs.Rows.{newCueEntry}
 use Rattle.format.specs.Contents.{cueOfEntry}
 use Rattle.format.specs.Blocks.{hasSignature}
 use Rattle.format.specs.Lists.{items, lists, anyOver}
 use Rattle.format.specs.Answers.{ifAccepted, fileAnswer}
-use Rattle.format.specs.Replacing.{emptyLine, rawLines, rawStart, rawEnd, newCueFails, regionNames, newFile, noGap, lineBefore, replacingIs, unlessTest, replacingText}
+use Rattle.format.specs.Replacing.{newCueFails, regionNames, newFile, noGap, lineBefore, replacingIs, unlessTest, replacingText}
 use Rattle.format.specs.declared.Replacing.{Replacing}
 use Rattle.format.specs.declared.Replacing.the-variants as Replacing
-use Rattle.laws.proofs.Newlines.{newlines-keeps}
-use Rattle.laws.proofs.Plainness.{plain-absent}
-use Rattle.laws.proofs.PlainText.{plainText-plain}
-use Rattle.replaced.proofs.RawLines.{split-rawLines}
+use Rattle.laws.proofs.Tests.{by-test}
+use Rattle.laws.proofs.Lines.{splits}
 use Rattle.replaced.proofs.CueBlocks.{cue-block-at}
 use Rattle.writable.specs.Faults.{testNumber}
 use Rattle.writable.proofs.FaultLaws.{none-fails, number-is}
 use Rattle.blocks.specs.Collecting.{lineEnds}
 use Rattle.places.specs.Places.{OwnLines}
+use Rattle.places.proofs.PlaceLaws.{ends-next}
+use Rattle.places.proofs.FindLaws.{ends-split}
 use Rattle.replace.specs.NewCue.{gapAnswer, testedAnswer, countedAnswer, Outcome}
 
-by-length : (a : ℕ) (x : List ℕ) → eqb a (a + length x) ≡ isEmpty x
+-- no line end stands before the first byte
+pub some-before : (s : List ℕ) (i : ℕ) → 0 < lineEnds (take i s) → 0 < i
+unfolding lineEnds
+some-before s zero h = h
+some-before s (suc i) h = omega arith
+
+-- a text before an LF and one after it have each its own lines
+split-apart : (x z : List ℕ) → split (x ++ lf ∷ z) ≡ split x ++ split z
+unfolding splitAt before onFirst
+split-apart [] z = refl
+split-apart (b ∷ x) z =
+    by-test (eqb b lf)
+    (λ y. rw (y, split-apart x z))
+    (λ n. rw (n, split-apart x z, splits x .is))
+
+-- a line is empty between two LF, and is not where it has a byte
+between-empty : (x z : List ℕ) → isEmpty (getD (split (x ++ lf ∷ lf ∷ z)) (suc (lineEnds x)) []) ≡ true
+unfolding splitAt before isEmpty
+between-empty x z =
+    let n = suc (lineEnds x) in
+    ap isEmpty (ap (λ ls. getD ls n []) (split-apart x (lf ∷ z)) ∙ getD-at (split x) [] (split z) [] n (ends-split x))
+
+longer-some :
+    (c : ℕ) (l : List ℕ) (ls : List (List ℕ)) (n : ℕ) → isEmpty (getD (l ∷ ls) n []) ≡ false → isEmpty (getD ((c ∷ l) ∷ ls) n []) ≡ false
 unfolding isEmpty
-by-length a [] = eq-eqb a (a + 0) (omega arith)
-by-length a (b ∷ x) = ne-eqb a (a + length (b ∷ x)) (λ e. omega arith)
+longer-some c l ls zero h = refl
+longer-some c l ls (suc n) h = h
 
--- a line of a plain text is empty where it ends at its start
-pub gap-is : (s : List ℕ) (n : ℕ) → Plain s → eqb (rawStart s n) (rawEnd s n) ≡ isEmpty (getD (split s) n [])
-unfolding rawEnd
-gap-is s n p =
-    let same = sym (ap split (newlines-keeps s (plain-absent s p))) ∙ split-rawLines s in
-    let line : getD (split s) n [] ≡ getD (rawLines s) n (emptyLine []) .bytes =
-    ap (λ ls. getD ls n []) same ∙ List·getD-map (λ l. l .bytes) (rawLines s) n (emptyLine []) in
-    rw line (by-length (rawStart s n) (getD (rawLines s) n (emptyLine []) .bytes))
+byte-some : (x z : List ℕ) (b : ℕ) → eqb b lf ≡ false → isEmpty (getD (split (x ++ b ∷ z)) (lineEnds x) []) ≡ false
+unfolding splitAt before onFirst isEmpty lineEnds
+byte-some [] z b e = rw (e, splits z .is)
+byte-some (c ∷ x) z b e =
+    let t = splits (x ++ b ∷ z) in
+    let e0 : 0 + lineEnds x ≡ lineEnds x = omega arith in
+    let e1 : 1 + lineEnds x ≡ suc (lineEnds x) = omega arith in
+    by-test (eqb c lf)
+    (λ y. rw (y, e1) (byte-some x z b e))
+    (λ n. rw (n, e0, t .is) (longer-some c (t .first) (t .rest) (lineEnds x) (rw (t .is) at (byte-some x z b e))))
 
-pub is-plain : (raw s : List ℕ) → s ≡ plainText raw → Plain s
-is-plain raw s e = rw e (plainText-plain raw)
+-- the line that an LF ends is empty where the LF is the text's first byte, and where it comes right after another
+pub first-gap : (s : List ℕ) → 0 < length s → getD s 0 0 ≡ lf → isEmpty (getD (split s) 0 []) ≡ true
+unfolding splitAt before isEmpty
+first-gap [] l e = absurd (omega arith)
+first-gap (b ∷ s) l e = rw e
+
+pub gap-is :
+    (s : List ℕ) (i j : ℕ)
+    → j ≡ i + 1
+    → j < length s
+    → getD s j 0 ≡ lf
+    → isEmpty (getD (split s) (lineEnds (take j s)) []) ≡ eqb (getD s i 0) lf
+gap-is s i j q l e =
+    let x = take i s in
+    let at : s ≡ x ++ getD s i 0 ∷ drop j s = rw (q, add-one i) (split-at s i 0 (omega arith)) in
+    let next : (t : Bool) → eqb (getD s i 0) lf ≡ t → lineEnds (take j s) ≡ lineEnds x + cond t 1 0 = rw q (ends-next s i (omega arith)) in
+    by-test (eqb (getD s i 0) lf)
+    (λ y. let n : lineEnds (take j s) ≡ suc (lineEnds x) = omega (arith, next true y) in
+    let two : s ≡ x ++ lf ∷ lf ∷ drop (suc j) s = at ∙ rw (eqb-true (getD s i 0) lf y, drop-cons s j 0 l, e) refl in
+    rw (y, n) (ap (λ r. isEmpty (getD (split r) (suc (lineEnds x)) [])) two ∙ between-empty x (drop (suc j) s)))
+    (λ z. let n : lineEnds (take j s) ≡ lineEnds x = omega (arith, next false z) in
+    rw (z, n) (ap (λ r. isEmpty (getD (split r) (lineEnds x) [])) at ∙ byte-some x (drop j s) (getD s i 0) z))
 
 -- a number of a test says that it fails, and 0 that none does
 module _ (s t w : List ℕ) {test : ℕ} (e : test ≡ testNumber (newCueFails t w (regionNames s))) where

@@ -11,7 +11,7 @@ use places::inner::finding::Surveyed;
 use places::inner::testing;
 use places::lines;
 use writable::part;
-ghost use Prim.Native.Nat.{ℕ, _-_, _<_};
+ghost use Prim.Native.Nat.{ℕ, _-_, _≤_, _<_};
 ghost use mathlib.Core.Path.{_≡_};
 ghost use mathlib.Core.Bool.{false, not, _&&_};
 ghost use mathlib.Core.Option.{none};
@@ -19,7 +19,7 @@ ghost use mathlib.Core.List.{[]};
 ghost use lib.ListN.{length, getD, take};
 ghost use Rattle.format.specs.Texts.{isEmpty};
 ghost use Rattle.format.specs.Lines.{split};
-ghost use Rattle.format.specs.Plain.{plainText, Plain};
+ghost use Rattle.format.specs.Plain.{plainText};
 ghost use Rattle.format.specs.Answers.{fileAnswer};
 ghost use Rattle.format.specs.Converting.{convertedRoom};
 ghost use Rattle.format.specs.Replacing.{nameLent, newCueFails, regionNames, newFile, replacingIs, replacingText, replacing, replacedRoom, Replaced};
@@ -75,18 +75,22 @@ fn replace_own(
     Replacing::File(put_file(raw, start, end, text, row, out))
 }
 
-// Is the line of a plain text before the one that has this place empty.
+// Is the line of a plain text before the one that has this place empty. Its end is sought back from the place: a cue's lines begin right
+// after it, so that two bytes decide.
 fn gap_before(s: &[u8], place: usize) -> bool
-    requires { ⌜ (Plain (now s)) × (0 < lineEnds (take place (now s))) ⌝ }
+    requires { ⌜ (place ≤ length (now s)) × (0 < lineEnds (take place (now s))) ⌝ }
     ensures { λ r. ⌜ r ≡ isEmpty (getD (split (now (s .entry))) (lineEnds (take place (now (s .entry))) - 1) []) ⌝ }
 {
-    let before = lines::lines_before(s, place) - 1;
-    lines::raw_start(s, before) == lines::raw_end(s, before)
+    let mut i = place - 1;
+    while s[i] != b'\n' {
+        i -= 1;
+    }
+    i == 0 || s[i - 1] == b'\n'
 }
 
 // Does an identifier lack the empty line that it needs before the line that has this place.
 fn lacks_gap(s: &[u8], place: usize, id: &[u8]) -> bool
-    requires { ⌜ (Plain (now s)) × (0 < lineEnds (take place (now s))) ⌝ }
+    requires { ⌜ (place ≤ length (now s)) × (0 < lineEnds (take place (now s))) ⌝ }
     ensures { λ r. ⌜ r ≡ not (isEmpty (now (id .entry))) && not (isEmpty (getD (split (now (s .entry))) (lineEnds (take place (now (s .entry))) - 1) [])) ⌝ }
 {
     if id.len() == 0 {

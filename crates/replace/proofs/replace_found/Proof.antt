@@ -6,7 +6,7 @@ use Rattle.format.specs.Contents.{cueOfEntry}
 use Rattle.format.specs.Plain.{plainText}
 use Rattle.format.specs.Replacing.{noGap}
 use Rattle.places.specs.Places.{OwnLines}
-use Rattle.replace.proofs.CheckLaws.{is-plain, gap-inside, gap-told, no-gap, gap-passed}
+use Rattle.replace.proofs.CheckLaws.{gap-inside, gap-told, no-gap, gap-passed}
 use borrow.Author.Needs.{needs}
 use Rattle.replace.proofs.replace_found.Statement.{statement}
 use Rattle.replace.proofs.replace_found.Tie as tie
@@ -45,7 +45,7 @@ lacks-gap-requires c κs =
     let start = c .before .before .before .before .before .before .before in
     let args = start .args in
     let own = args .found .own in (
-      is-plain (args .raw .now) (args .s .now) (start .pre .0),
+      omega (arith, own-lines start .some, own-lines start .inside),
       gap-inside (args .s .now) (args .number) (own .from) (own .to) (omega (arith, start .pre .1 .counted, start .pre .2)) (own-lines start),
     )
 
