@@ -7,7 +7,7 @@ use mathlib.Core.Option.{Option, none, some}
 use native.Mathlib.Omega.{arith}
 use lib.Dec.{eqb, ltb}
 use lib.ListN.{length, getD, take, drop}
-use lib.Seq.{take-add, getD-drop, drop-drop}
+use lib.Seq.{getD-drop, drop-drop}
 use borrow.Author.Tests.{eqb-true, eqb-false, ne-eqb, lt-ltb}
 use Rattle.format.specs.Bytes.{lf}
 use Rattle.format.specs.Texts.{same}
@@ -28,12 +28,12 @@ use Rattle.blocks.specs.declared.items.Item as Read
 use Rattle.blocks.specs.declared.items.Item.the-variants as Made
 use Rattle.blocks.specs.Collecting.{lineEnds}
 use Rattle.blocks.specs.Items.{meaningAt, BlockAt, NextAt, itemIs}
-use Rattle.blocks.proofs.LineLaws.{ends-append}
 use Rattle.blocks.proofs.ItemLaws.{part-back}
 use Rattle.blocks.proofs.WalkLaws.{fresh, items-next, moves}
 use Rattle.places.specs.declared.inner.finding.Found.{Found}
 use Rattle.places.specs.Places.{OwnLines}
 use Rattle.places.specs.Finding.{withItem, FoundIn}
+use Rattle.places.proofs.PlaceLaws.{ends-more}
 
 -- a text has one line more than LF
 pub ends-split : (x : List ℕ) → length (split x) ≡ suc (lineEnds x)
@@ -62,14 +62,11 @@ module _ (s : List ℕ) (number from : ℕ) (st : Stop) (b : BlockAt s from st) 
   unfolding lastLine
   own-lines =
       let l : from ≤ st .to = omega (arith, b .starts, b .first-end, b .end-to) in
-      let e : st .to ≡ from + (st .to - from) = omega arith in
-      let ends : lineEnds (take (st .to) s) ≡ lineEnds (take from s) + lineEnds own =
-      ap (λ i. lineEnds (take i s)) e ∙ ap lineEnds (take-add from (st .to - from) s) ∙ ends-append (take from s) own in
       record {
         some = l;
         inside = omega (arith, b .to-at, b .inside);
         first = first-line;
-        last = omega (arith, first-line, block-length, ends);
+        last = omega (arith, first-line, block-length, ends-more s from (st .to) l);
       }
 
 -- has one of these names, in whatever order they are looked through

@@ -1,13 +1,13 @@
 -- Line ends before a place of a text, and where a raw line starts and ends, as a loop goes over the bytes.
-use Prim.Native.Nat.{ℕ, zero, suc, _+_, _≤_, _<_}
-use mathlib.Core.Path.{_≡_, refl, sym}
+use Prim.Native.Nat.{ℕ, zero, suc, _+_, _-_, _≤_, _<_}
+use mathlib.Core.Path.{_≡_, refl, sym, ap, _∙_}
 use mathlib.Core.Bool.{Bool, cond}
 use mathlib.Core.List.{List, [], _∷_}
 use native.Mathlib.Numerals.{add-one}
 use native.Mathlib.Omega.{arith}
 use lib.Dec.{eqb}
 use lib.ListN.{length, getD, take, drop, drop-of-length-le}
-use lib.Seq.{take-suc, drop-cons, take-nil}
+use lib.Seq.{take-suc, take-add, drop-cons, drop-drop, take-nil}
 use borrow.Author.Tests.{ne-eqb}
 use Rattle.format.specs.Bytes.{lf, cr}
 use Rattle.format.specs.Texts.{startsWith}
@@ -28,6 +28,13 @@ pub ends-next :
 unfolding lineEnds
 ends-next s i l t e = rw (sym e, add-one i, take-suc s i 0 l) (omega (arith, ends-append (take i s) (getD s i 0 ∷ [])))
 
+-- the line ends up to a place, with those from there up to another
+pub ends-more :
+    (s : List ℕ) (from to : ℕ) → from ≤ to → lineEnds (take to s) ≡ lineEnds (take from s) + lineEnds (take (to - from) (drop from s))
+ends-more s from to l =
+    let e : to ≡ from + (to - from) = omega arith in
+    ap (λ i. lineEnds (take i s)) e ∙ ap lineEnds (take-add from (to - from) s) ∙ ends-append (take from s) (take (to - from) (drop from s))
+
 -- line n of ls is line m of ms, and starts one byte later
 record Later (ls ms : List RawLine) (n m : ℕ) : Type 0 where
   start : length (rawBytes (take n ls)) ≡ suc (length (rawBytes (take m ms)))
@@ -41,6 +48,9 @@ later-on b (l ∷ ls) n = record { start = refl; line = refl }
 -- which line of the bytes s is line n + 1, where b stands before them
 abbrev lineIn : ℕ → List ℕ → ℕ → ℕ
 lineIn b s n = cond (endsLine b s) n (suc n)
+
+line-in-add : (b : ℕ) (s : List ℕ) (n k : ℕ) → lineIn b s (n + k) ≡ lineIn b s n + k
+line-in-add b s n k = by-test (endsLine b s) (λ y. rw y) (λ z. rw z (omega arith))
 
 later : (b : ℕ) (s : List ℕ) (n : ℕ) → Later (rawLines (b ∷ s)) (rawLines s) (suc n) (lineIn b s n)
 unfolding rawLines beforeLines onEnding rawBytes endsLine
@@ -75,11 +85,22 @@ unfolding rawEnd rawLines
 end-nothing zero = omega (arith, start-nothing 0)
 end-nothing (suc n) = omega (arith, start-nothing (suc n))
 
--- line n, from where it starts, is the first line of the rest
-pub end-from-start : (raw : List ℕ) (n : ℕ) → rawStart raw n + rawEnd (drop (rawStart raw n) raw) 0 ≡ rawEnd raw n
-end-from-start [] n = rw (start-nothing n, end-nothing n, end-nothing 0)
-end-from-start (b ∷ s) zero = rw (start-zero (b ∷ s) 0 refl) (omega arith)
-end-from-start (b ∷ s) (suc n) = rw (start-later b s n, end-later b s n) (omega (arith, end-from-start s (lineIn b s n)))
+-- the line k lines after line n, sought from where line n starts
+pub end-from : (raw : List ℕ) (n k : ℕ) → rawStart raw n + rawEnd (drop (rawStart raw n) raw) k ≡ rawEnd raw (n + k)
+end-from [] n k = rw (start-nothing n, end-nothing (n + k), end-nothing k)
+end-from (b ∷ s) zero k = let e : 0 + k ≡ k = omega arith in rw (start-zero (b ∷ s) 0 refl, e) (omega arith)
+end-from (b ∷ s) (suc n) k =
+    let e : suc n + k ≡ suc (n + k) = omega arith in
+    rw (e, start-later b s n, end-later b s (n + k), line-in-add b s n k) (omega (arith, end-from s (lineIn b s n) k))
+
+-- the line n lines after the one at a place, from where it starts, is the first line of the rest
+pub end-from-start :
+    (raw : List ℕ) (from n : ℕ)
+    → let i = from + rawStart (drop from raw) n in i + rawEnd (drop i raw) 0 ≡ from + rawEnd (drop from raw) n
+end-from-start raw from n =
+    let e : n + 0 ≡ n = omega arith in
+    let s = drop from raw in
+    rw (sym (drop-drop (rawStart s n) from raw)) (omega (arith, end-from s n 0, ap (rawEnd s) e))
 
 -- a byte more in the first line
 first-on :

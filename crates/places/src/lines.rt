@@ -1,19 +1,19 @@
-// Lines by their numbers: how many line ends stand before a place of a plain text, and where a line of a raw file starts and ends.
+// Lines by their numbers: how many line ends a plain text has, and where a line of a raw file starts and ends. A line is sought from one
+// before it, so that the bytes of a long file are gone over once.
 ghost use mathlib.Core.Path.{_≡_};
 ghost use Prim.Native.Nat.{_+_, _<_};
-ghost use lib.ListN.{length, getD, take, drop};
+ghost use lib.ListN.{length, getD, drop};
 ghost use Rattle.format.specs.Replacing.{rawStart, rawEnd};
 ghost use Rattle.blocks.specs.Collecting.{lineEnds};
 ghost use Rattle.places.specs.Places.{endsLine};
 
-// The number of the line of a plain text that has this place.
-pub fn lines_before(s: &[u8], place: usize) -> usize
-    ensures { λ r. ⌜ r ≡ lineEnds (take place (now (s .entry))) ⌝ }
+// How many line ends a plain text or a part of it has.
+pub fn line_ends(s: &[u8]) -> usize
+    ensures { λ r. ⌜ r ≡ lineEnds (now (s .entry)) ⌝ }
 {
-    let end = values::least(place, s.len());
     let mut i = 0;
     let mut n = 0;
-    while i < end {
+    while i < s.len() {
         if s[i] == b'\n' {
             n += 1;
         }
@@ -22,11 +22,11 @@ pub fn lines_before(s: &[u8], place: usize) -> usize
     n
 }
 
-// Where line `n` of a raw file starts; the file's end where it has fewer lines.
-pub fn raw_start(raw: &[u8], n: usize) -> usize
-    ensures { λ r. ⌜ r ≡ rawStart (now (raw .entry)) n ⌝ }
+// Where the line of a raw file starts that is `n` lines after the one that starts at `from`; the file's end where it has fewer lines.
+pub fn raw_start(raw: &[u8], from: usize, n: usize) -> usize
+    ensures { λ r. ⌜ r ≡ from + rawStart (drop from (now (raw .entry))) n ⌝ }
 {
-    let mut i = 0;
+    let mut i = from;
     let mut k = 0;
     while i < raw.len() {
         if k == n {
@@ -58,11 +58,11 @@ fn ends_line(raw: &[u8], at: usize) -> bool
     raw[at + 1] != b'\n'
 }
 
-// Where line `n` of a raw file ends, its terminator excluded.
-pub fn raw_end(raw: &[u8], n: usize) -> usize
-    ensures { λ r. ⌜ r ≡ rawEnd (now (raw .entry)) n ⌝ }
+// Where the line of a raw file ends that is `n` lines after the one that starts at `from`, its terminator excluded.
+pub fn raw_end(raw: &[u8], from: usize, n: usize) -> usize
+    ensures { λ r. ⌜ r ≡ from + rawEnd (drop from (now (raw .entry))) n ⌝ }
 {
-    let mut i = raw_start(raw, n);
+    let mut i = raw_start(raw, from, n);
     while i < raw.len() {
         let b = raw[i];
         if b == b'\n' {

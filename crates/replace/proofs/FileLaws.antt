@@ -1,6 +1,6 @@
 -- Laws of the new file: the pieces it is put together of, and the form of the new cue among the old file's regions.
-use Prim.Native.Nat.{ℕ, _-_, _≤_, _<_}
-use mathlib.Core.Path.{_≡_, refl, ap, _∙_}
+use Prim.Native.Nat.{ℕ, _+_, _-_, _≤_, _<_}
+use mathlib.Core.Path.{_≡_, refl, sym, ap, _∙_}
 use mathlib.Core.Bool.{true, false, not, _||_, false≢true}
 use mathlib.Core.List.{List, [], _∷_, _++_}
 use mathlib.Core.Option.{Option, none, some}
@@ -22,7 +22,7 @@ use Rattle.format.specs.Lists.{lists}
 use Rattle.format.specs.Contents.{contents, cueOfEntry}
 use Rattle.format.specs.Writable.{cueTests}
 use Rattle.format.specs.Written.{writtenRegionName, writtenSettings, writtenTiming, cueLines}
-use Rattle.format.specs.Replacing.{nameLent, regionAsked, withRegion, cueAsked, newTest1, isThere, newTest6, newCueFails, regionNames, newForm, newFile, replacingIs, rawStart, rawEnd, ownStart, ownEnd}
+use Rattle.format.specs.Replacing.{nameLent, regionAsked, withRegion, cueAsked, newTest1, isThere, newTest6, newCueFails, regionNames, newForm, newFile, replacingIs, rawStart, rawEnd, firstLine, lastLine, ownStart, ownEnd}
 use Rattle.laws.proofs.Tests.{by-test}
 use Rattle.roundtrip.proofs.Shape.{none-fails}
 use Rattle.replaced.proofs.Asked.{names-are, asked-name}
@@ -30,6 +30,7 @@ use Rattle.setting_forms.specs.Settings.{asked, namedRegion, settingsForm}
 use Rattle.forms.specs.Forms.{timingForm, cueForm}
 use Rattle.blocks.specs.Collecting.{lineEnds}
 use Rattle.places.specs.Places.{OwnLines}
+use Rattle.places.proofs.PlaceLaws.{ends-more, end-from}
 use Rattle.replace.specs.NewCue.{lentForm, inPlace, Outcome}
 
 pub front-part : (s : List ℕ) (n : ℕ) → bytesAt s 0 n ≡ take n s
@@ -86,18 +87,24 @@ module _ (s t w : List ℕ) (e : newCueFails t w (regionNames s) ≡ none) where
   unfolding lentForm newForm cueForm cueLines cueAsked withRegion cueOfEntry timingForm settingsForm writtenTiming writtenSettings
   form-is = rw region-form refl
 
--- the file that the code puts together is the new file
+-- the file that the code puts together is the new file: its raw lines are sought by the line ends before the cue's lines and in them
 pub file-is :
-    (raw s t w : List ℕ) (number from to start end : ℕ)
+    (raw s t w : List ℕ) (number from to first more start end : ℕ)
     → s ≡ plainText raw
     → OwnLines s number from to
     → newCueFails t w (regionNames s) ≡ none
-    → start ≡ rawStart raw (lineEnds (take from s))
-    → end ≡ rawEnd raw (lineEnds (take to s))
+    → first ≡ lineEnds (bytesAt s 0 from)
+    → more ≡ lineEnds (bytesAt s from to)
+    → start ≡ 0 + rawStart (drop 0 raw) first
+    → end ≡ start + rawEnd (drop start raw) more
     → inPlace raw start end t w ≡ newFile raw number t w
-unfolding inPlace newFile ownStart ownEnd
-file-is raw s t w number from to start end e own passed a b =
-    rw (a, b, ← (own .first), ← (own .last), form-is s t w passed, e) refl
+unfolding inPlace newFile ownStart ownEnd bytesAt
+file-is raw s t w number from to first more start end e own passed f m a b =
+    let number-first : first ≡ firstLine s number = f ∙ ap lineEnds (front-part s from) ∙ sym (own .first) in
+    let number-last : first + more ≡ lastLine s number = omega (arith, own .first, own .last, ends-more s from to (own .some)) in
+    let starts : start ≡ rawStart raw first = omega arith in
+    let ends : end ≡ rawEnd raw (first + more) = b ∙ rw starts (end-from raw first more) in
+    rw (starts, ends, number-last, number-first, form-is s t w passed, e) refl
 
 -- what was measured decides the answer
 module _ (new out : List ℕ) {o p : List ℕ} {n : ℕ} (f : Puts new 0 o n p) where

@@ -62,8 +62,10 @@ fn replace_own(
     requires { ⌜ (now s ≡ plainText (now raw)) × (OwnLines (now s) number (own .from) (own .to)) × (newCueFails (now text) row (regionNames (now s)) ≡ none) ⌝ }
     ensures { λ r. ⌜ Outcome (newFile (now (raw .entry)) number (now (text .entry)) row) (now (out .entry)) (fileAnswer (newFile (now (raw .entry)) number (now (text .entry)) row) (length (now (out .entry)))) r (now (out .exit)) ⌝ }
 {
-    let start = lines::raw_start(raw, lines::lines_before(s, own.from));
-    let end = lines::raw_end(raw, lines::lines_before(s, own.to));
+    let first = lines::line_ends(part(s, 0, own.from));
+    let more = lines::line_ends(part(s, own.from, own.to));
+    let start = lines::raw_start(raw, 0, first);
+    let end = lines::raw_end(raw, start, more);
     let mut nothing = [0u8; 1];
     let need = put_file(raw, start, end, text, row, &mut nothing);
     if format::MAX_FILE < need {

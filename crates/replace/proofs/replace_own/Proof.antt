@@ -1,7 +1,8 @@
 -- `replace::replace_own` meets its contract.
 use mathlib.Core.Path.{_≡_, ap, _∙_}
-use Rattle.format.specs.Replacing.{rawStart, rawEnd, newFile}
+use Rattle.format.specs.Replacing.{newFile}
 use Rattle.output.proofs.PutLaws.{puts-as}
+use Rattle.blocks.specs.Collecting.{lineEnds}
 use Rattle.replace.specs.NewCue.{inPlace}
 use Rattle.replace.proofs.FileLaws.{file-is, too-long, too-short, fits}
 use borrow.Author.Needs.{needs}
@@ -10,34 +11,42 @@ use Rattle.replace.proofs.replace_own.Tie as tie
 
 -- the places that were found are the cue's own
 abbrev start-of : tie.After-put-file → tie.Start
-start-of put = put .before .before .before .before .before .before .before .before .before .before
+start-of put = put .before .before .before .before .before .before .before .before .before .before .before .before
 
 is-new :
     (put : tie.After-put-file)
     → let args = start-of put .args in
     let end = put .before .before .raw-end .result in
-    let start = put .before .before .before .before .raw-start .result in
+    let start = put .before .before .before .raw-start .result in
     inPlace (args .raw .now) start end (args .text .now) (args .row) ≡ newFile (args .raw .now) (args .number) (args .text .now) (args .row)
 is-new put =
     let end = put .before .before in
-    let last = end .before in
-    let start = last .before in
-    let first = start .before in
+    let start = end .before in
+    let more = start .before in
+    let first = more .before .before in
     let s = start-of put in
     let args = s .args in
-    file-is (args .raw .now) (args .s .now) (args .text .now) (args .row) (args .number) (args .own .from) (args .own .to) (start .raw-start .result) (end .raw-end .result)
+    file-is (args .raw .now) (args .s .now) (args .text .now) (args .row) (args .number) (args .own .from) (args .own .to)
+    (first .line-ends .result) (more .line-ends2 .result) (start .raw-start .result) (end .raw-end .result)
     (s .pre .0) (s .pre .1) (s .pre .2)
-    (start .raw-start .ensures ∙ ap (rawStart (args .raw .now)) (first .lines-before .ensures))
-    (end .raw-end .ensures ∙ ap (rawEnd (args .raw .now)) (last .lines-before2 .ensures))
+    (first .line-ends .ensures ∙ ap lineEnds (first .before .part .ensures))
+    (more .line-ends2 .ensures ∙ ap lineEnds (more .before .part2 .ensures))
+    (start .raw-start .ensures) (end .raw-end .ensures)
 
-lines-before-requires : tie.Need-lines-before-requires
-lines-before-requires c κs = search needs
+part-requires : tie.Need-part-requires
+part-requires c κs = search needs
+
+line-ends-requires : tie.Need-line-ends-requires
+line-ends-requires c κs = search needs
+
+part-requires-2 : tie.Need-part-requires-2
+part-requires-2 c κs = search needs
+
+line-ends-requires-2 : tie.Need-line-ends-requires-2
+line-ends-requires-2 c κs = search needs
 
 raw-start-requires : tie.Need-raw-start-requires
 raw-start-requires c κs = search needs
-
-lines-before-requires-2 : tie.Need-lines-before-requires-2
-lines-before-requires-2 c κs = search needs
 
 raw-end-requires : tie.Need-raw-end-requires
 raw-end-requires c κs = search needs
@@ -82,9 +91,11 @@ pub replace-own-spec : {M : Type 1} → statement M
 replace-own-spec =
     tie.close
     (tie.spec
-    lines-before-requires
+    part-requires
+    line-ends-requires
+    part-requires-2
+    line-ends-requires-2
     raw-start-requires
-    lines-before-requires-2
     raw-end-requires
     slice-aggregate-put-file
     put-file-requires

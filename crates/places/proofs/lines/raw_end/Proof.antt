@@ -1,4 +1,4 @@
--- `places::lines::raw_end` meets its contract: the first line of what is left from `i` on ends where line `n` does.
+-- `places::lines::raw_end` meets its contract: the first line of what is left from `i` on ends where the line asked for does.
 use Prim.Native.Nat.{_+_, _-_}
 use mathlib.Core.Path.{_≡_}
 use native.Mathlib.Omega.{arith}
@@ -10,10 +10,10 @@ use Rattle.places.proofs.lines.raw_end.Statement.{statement}
 use Rattle.places.proofs.lines.raw_end.Tie as tie
 
 abbrev Inv-loop : tie.InvT-loop
-Inv-loop raw n i₀ i = i + rawEnd (drop i raw) 0 ≡ rawEnd raw n
+Inv-loop raw from n i₀ i = i + rawEnd (drop i raw) 0 ≡ from + rawEnd (drop from raw) n
 
 abbrev μ-loop : tie.MeasureT-loop
-μ-loop raw n i₀ i = length raw - i
+μ-loop raw from n i₀ i = length raw - i
 
 raw-start-requires : tie.Need-raw-start-requires Inv-loop μ-loop
 raw-start-requires c κs = search needs
@@ -21,7 +21,7 @@ raw-start-requires c κs = search needs
 loop-holds : tie.Need-loop-holds Inv-loop μ-loop
 loop-holds c =
     let args = c .before .before .args in
-    rw (c .raw-start .ensures) (end-from-start (args .raw .now) (args .n))
+    rw (c .raw-start .ensures) (end-from-start (args .raw .now) (args .from) (args .n))
 
 shared-slice-read-b : tie.Need-shared-slice-read-b Inv-loop μ-loop
 shared-slice-read-b c = omega arith

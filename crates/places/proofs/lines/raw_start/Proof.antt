@@ -11,10 +11,10 @@ use Rattle.places.proofs.lines.raw_start.Statement.{statement}
 use Rattle.places.proofs.lines.raw_start.Tie as tie
 
 abbrev Inv-loop : tie.InvT-loop
-Inv-loop raw n i₀ k₀ i k = (k ≤ n) × (i + rawStart (drop i raw) (n - k) ≡ rawStart raw n)
+Inv-loop raw from n i₀ k₀ i k = (k ≤ n) × (i + rawStart (drop i raw) (n - k) ≡ from + rawStart (drop from raw) n)
 
 abbrev μ-loop : tie.MeasureT-loop
-μ-loop raw n i₀ k₀ i k = length raw - i
+μ-loop raw from n i₀ k₀ i k = length raw - i
 
 loop-holds : tie.Need-loop-holds Inv-loop μ-loop
 loop-holds c =

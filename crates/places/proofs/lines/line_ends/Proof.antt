@@ -1,27 +1,23 @@
--- `places::lines::lines_before` meets its contract: `n` line ends stand before the place `i`.
-use Prim.Native.Nat.{_≤_, _-_, min}
-use mathlib.Core.Path.{_≡_, refl, sym, ap, _∙_}
+-- `places::lines::line_ends` meets its contract: `n` line ends stand before the place `i`.
+use Prim.Native.Nat.{_≤_, _-_}
+use mathlib.Core.Path.{_≡_, refl, ap, _∙_}
 use mathlib.Core.Bool.{true, false}
 use mathlib.Core.Logic.{⊎-elim}
 use native.Mathlib.Omega.{arith}
 use lib.ListN.{length, getD, take}
-use borrow.Author.Needs.{needs}
+use lib.Seq.{take-all}
 use borrow.Author.Tests.{eq-eqb, ne-eqb}
 use Rattle.format.specs.Bytes.{lf}
-use Rattle.lookup.proofs.NameLaws.{take-min}
 use Rattle.blocks.specs.Collecting.{lineEnds}
 use Rattle.places.proofs.PlaceLaws.{ends-next}
-use Rattle.places.proofs.lines.lines_before.Statement.{statement}
-use Rattle.places.proofs.lines.lines_before.Tie as tie
+use Rattle.places.proofs.lines.line_ends.Statement.{statement}
+use Rattle.places.proofs.lines.line_ends.Tie as tie
 
 abbrev Inv-loop : tie.InvT-loop
-Inv-loop s place end i₀ n₀ i n = (i ≤ end) × (n ≤ i) × (n ≡ lineEnds (take i s))
+Inv-loop s i₀ n₀ i n = (i ≤ length s) × (n ≤ i) × (n ≡ lineEnds (take i s))
 
 abbrev μ-loop : tie.MeasureT-loop
-μ-loop s place end i₀ n₀ i n = end - i
-
-least-requires : tie.Need-least-requires Inv-loop μ-loop
-least-requires c κs = search needs
+μ-loop s i₀ n₀ i n = length s - i
 
 loop-holds : tie.Need-loop-holds Inv-loop μ-loop
 unfolding lineEnds
@@ -42,7 +38,7 @@ loop-less c = omega arith
 loop-again : tie.Need-loop-again Inv-loop μ-loop
 loop-again c =
     let at = c .before .before .before in
-    let s = at .before .before .before .args .s .now in
+    let s = at .before .args .s .now in
     let next = ends-next s (at .loop .i) (omega arith) in
     ⊎-elim
     (λ w. omega (arith, next true (eq-eqb (getD s (at .loop .i) 0) lf (w .0 .taken)), w))
@@ -52,17 +48,14 @@ loop-again c =
 returns : tie.Need-returns Inv-loop μ-loop
 returns c =
     let at = c .before in
-    let args = at .before .before .before .args in
-    let all : at .loop .i ≡ min (args .place) (length (args .s .now)) = omega (arith, at .before .least .ensures) in
-    at .loop .inv .2 ∙ ap lineEnds (ap (λ i. take i (args .s .now)) all ∙ sym (take-min (args .place) (args .s .now)))
+    at .loop .inv .2 ∙ ap lineEnds (take-all (at .loop .i) (at .before .args .s .now) (omega arith))
 
-pub lines-before-spec : {M : Type 1} → statement M
-lines-before-spec =
+pub line-ends-spec : {M : Type 1} → statement M
+line-ends-spec =
     tie.close
     (tie.spec
     Inv-loop
     μ-loop
-    least-requires
     loop-holds
     shared-slice-read-if1
     add-n
