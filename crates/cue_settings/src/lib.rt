@@ -5,6 +5,7 @@ ghost use Rattle.format.specs.CueSettings.{cueSettings};
 ghost use Rattle.values.specs.Tokens.{partOf};
 ghost use Rattle.cue_settings.specs.Steps.{takenIs};
 
+mod overs;
 pub mod steps;
 
 // The settings that the text from `from` up to `to` gives.
@@ -14,4 +15,13 @@ pub fn all_settings(text: &[u8], from: usize, to: usize) -> CueTaken
     let end = values::least(to, text.len());
     let start = values::least(from, end);
     steps::read_settings(&text[..end], start)
+}
+
+// Has a setting that the text from `from` up to `to` gives a number above its limit.
+pub fn any_over(text: &[u8], from: usize, to: usize) -> bool
+    ensures { λ r. ⌜ r ≡ cueSettings (partOf (now (text .entry)) from to) .over ⌝ }
+{
+    let end = values::least(to, text.len());
+    let start = values::least(from, end);
+    overs::any_token_over(&text[..end], start)
 }

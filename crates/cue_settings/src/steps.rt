@@ -78,7 +78,7 @@ fn line_number(place: &[u8], align: LineAlign) -> Change
     }
 }
 
-fn line_change(value: &[u8], current: LineAlign) -> Change
+pub(crate) fn line_change(value: &[u8], current: LineAlign) -> Change
     ensures { λ r. ⌜ r ≡ lineChange (now (value .entry)) current ⌝ }
 {
     let comma = values::bytes::past(value, 0, ByteKind::Until(b','));
