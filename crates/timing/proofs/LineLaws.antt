@@ -1,7 +1,7 @@
 -- A timing line at a place of a slice: the arrow, the end time and the settings by the code's tests.
 use Prim.Native.Nat.{ℕ, suc, _+_, _-_, _≤_, _<_, min}
 use mathlib.Core.Path.{_≡_, refl, sym, ap, _∙_}
-use mathlib.Core.Bool.{Bool, false}
+use mathlib.Core.Bool.{Bool, false, cond, _||_}
 use mathlib.Core.List.{List, [], _∷_}
 use mathlib.Core.Option.{Option, none, some}
 use native.Mathlib.Omega.{arith}
@@ -12,15 +12,19 @@ use borrow.Author.Tests.{eq-eqb, ne-eqb}
 use Rattle.format.specs.Bytes.{white, hyphen, greater}
 use Rattle.format.specs.Times.{Result, failed, got, onGot, expect, Time, timestamp, milliseconds, overHours}
 use Rattle.format.specs.Answers.{limited}
+use Rattle.format.specs.CueSettings.{cueSettings}
 use Rattle.format.specs.TimingLines as Format
 use Rattle.format.specs.TimingLines.{skipWhite, arrow, arrowAndEnd, timings, withSettings, timingOf, timingLine}
 use Rattle.laws.proofs.Tests.{by-test, or-true}
 use Rattle.laws.proofs.Runs.{RunAt}
 use Rattle.values.specs.Times.{stampIs}
 use Rattle.values.specs.Tokens.{tokenFrom, partOf}
-use Rattle.values.proofs.StepLaws.{Steady, steady-then, steady-expect, steady-past, steady-timestamp, left-at, StampRead}
+use Rattle.values.proofs.StepLaws.{Steady, steady-then, steady-expect, steady-past, steady-got, steady-timestamp, left-at, StampRead}
 use Rattle.timing.specs.declared.timing_line.ArrowEnd.the-variants as ArrowEnd
-use Rattle.timing.specs.TimingLines.{arrowIs, lineFrom, timingLineIs, timingLineAnswer, lineAnswer}
+use Rattle.timing.specs.TimingLines.{arrowIs, bothIs, timesIs, withSettingsIs, lineFrom, timingLineIs, lineKind, timingLineAnswer, lineAnswer}
+use Rattle.timing.specs.declared.timing_line.Times.{Times}
+use Rattle.timing.specs.declared.timing_line.Times.the-variants as Times
+use Rattle.timing.specs.declared.timing_line.LineKind.the-variants as LineKind
 use Rattle.timing.specs.declared.timing_line.TimingLine.{TimingLine}
 
 arrow-few : (x : List ℕ) → length x < 3 → arrow x ≡ failed
@@ -114,11 +118,11 @@ module _ (s : List ℕ) (at w : ℕ) (r : RunAt white s at w) where
   unfolding arrowAndEnd onGot
   end-is next w₂ f r₂ = rw (r .past, f, r₂ .past)
 
--- the line, from its start time on
-module _ (s : List ℕ) (from w : ℕ) (h : from ≤ length s) (r : RunAt white s from w) where
-  pub line-none : timestamp (drop w s) ≡ failed → timingLine (tokenFrom s from) ≡ none
-  unfolding timingLine timingOf timings onGot
-  line-none f = rw (r .past, f)
+-- the times, from the start time on
+module _ (s : List ℕ) (from w : ℕ) (r : RunAt white s from w) where
+  pub times-none : timestamp (drop w s) ≡ failed → timings (drop from s) ≡ failed
+  unfolding timings onGot
+  times-none f = rw (r .past, f)
 
   module _ (next : ℕ) (t : Time) (read : StampRead timestamp s w next t) where
     timings-are : timings (drop from s) ≡ onGot (arrowAndEnd (drop next s)) (λ end. got (record { start = t; end = end }))
@@ -126,27 +130,60 @@ module _ (s : List ℕ) (from w : ℕ) (h : from ≤ length s) (r : RunAt white 
     timings-are = rw (r .past, read .is)
 
     module _ (o : Bool) (ms : ℕ) (over : overHours t ≡ o) (same : o ≡ false → milliseconds t ≡ ms) where
-      line-of :
+      both-of :
           (y : Result Time)
-          → arrowAndEnd (drop next s) ≡ y
-          → lineFrom s o ms (stampIs (length s) y)
-          ≡ timingLineIs (timingOf (tokenFrom s from) (onGot y (λ end. got (record { start = t; end = end }))))
-      unfolding timingOf onGot withSettings
-      line-of failed k = refl
-      line-of (got e rest) k =
-          let n = length s - length rest in
-          let l = left-at s next rest (read .inside) (steady-end (drop next s) e rest k) in
-          let place : from + (length (drop from s) - length rest) ≡ n =
-          omega (arith, length-drop from s, r .from, read .after, l .1, l .2) in
+          → bothIs o ms (stampIs (length s) y) ≡ timesIs (length s) (onGot y (λ end. got (record { start = t; end = end })))
+      unfolding onGot
+      both-of failed = refl
+      both-of (got e rest) =
           by-test (overHours e)
-          (λ y. rw (place, over, y, or-true o) refl)
-          (λ z. by-test o
-          (λ y. rw (place, over, z, y) refl)
-          (λ x. rw (place, over, z, x, same x, sym (l .0)) refl))
+          (λ y. rw (over, y, or-true o) refl)
+          (λ z. by-test o (λ y. rw (over, z, y) refl) (λ x. rw (over, z, x, same x) refl))
 
-      pub line-is : lineFrom s o ms (stampIs (length s) (arrowAndEnd (drop next s))) ≡ timingLineIs (timingLine (tokenFrom s from))
-      unfolding timingLine
-      line-is = rw timings-are (line-of (arrowAndEnd (drop next s)) refl)
+      pub times-are : bothIs o ms (stampIs (length s) (arrowAndEnd (drop next s))) ≡ timesIs (length s) (timings (drop from s))
+      times-are = rw timings-are (both-of (arrowAndEnd (drop next s)))
+
+steady-timings : Steady timings
+unfolding timings
+steady-timings =
+    steady-then skipWhite (λ u x. onGot (timestamp x) (λ start y. onGot (arrowAndEnd y) (λ end. got (record { start = start; end = end })))) steady-skip
+    (λ u. steady-then timestamp (λ start y. onGot (arrowAndEnd y) (λ end. got (record { start = start; end = end }))) steady-timestamp
+    (λ start. steady-then arrowAndEnd (λ end. got (record { start = start; end = end })) steady-end (λ end. steady-got (record { start = start; end = end }))))
+
+-- the line, by its times
+module _ (s : List ℕ) (from : ℕ) (h : from ≤ length s) where
+  line-of : (y : Result Format.Times) → timings (drop from s) ≡ y → lineFrom s (timesIs (length s) y) ≡ timingLineIs (timingOf (tokenFrom s from) y)
+  unfolding timingOf withSettings
+  line-of failed k = refl
+  line-of (got t rest) k =
+      let n = length s - length rest in
+      let l = left-at s from rest h (steady-timings (drop from s) t rest k) in
+      let place : from + (length (drop from s) - length rest) ≡ n = omega (arith, length-drop from s, l .1, l .2) in
+      by-test (overHours (t .start) || overHours (t .end)) (λ y. rw (place, y) refl) (λ z. rw (place, z, sym (l .0)) refl)
+
+  pub line-is : lineFrom s (timesIs (length s) (timings (drop from s))) ≡ timingLineIs (timingLine (tokenFrom s from))
+  unfolding timingLine
+  line-is = line-of (timings (drop from s)) refl
+
+  -- where the times end
+  pub times-inside : (start end next : ℕ) → Times.Good start end next ≡ timesIs (length s) (timings (drop from s)) → next ≤ length s
+  times-inside start end next q = go (timings (drop from s)) refl
+    where
+      go : (y : Result Format.Times) → timings (drop from s) ≡ y → next ≤ length s
+      go failed k = let g : Times.Good start end next ≡ Times.Bad = rw k at q in let z : _≡_ {A = ℕ} 0 1 = cc in absurd (omega arith)
+      go (got t rest) k =
+          let g : Times.Good start end next ≡ timesIs (length s) (got t rest) = rw k at q in
+          by-test (overHours (t .start) || overHours (t .end))
+          (λ y. let f : Times.Good start end next ≡ Times.Over = rw y at g in let z : _≡_ {A = ℕ} 0 1 = cc in absurd (omega arith))
+          (λ n. let f : Times.Good start end next ≡ Times.Good (milliseconds (t .start)) (milliseconds (t .end)) (length s - length rest) = rw n at g in
+          let e : next ≡ length s - length rest = cc in
+          omega arith)
+
+-- what a line is, by its settings
+pub kind-with :
+    (s : List ℕ) (start end at : ℕ)
+    → lineKind (withSettingsIs s start end at) ≡ cond (cueSettings (tokenFrom s at) .over) LineKind.Over LineKind.Good
+kind-with s start end at = by-test (cueSettings (tokenFrom s at) .over) (λ y. rw y refl) (λ n. rw n refl)
 
 -- the part of a text from a place up to its end
 pub part-rest : (s : List ℕ) (at : ℕ) → at ≤ length s → partOf s at (length s) ≡ tokenFrom s at

@@ -1,9 +1,10 @@
 // A cue's timing line, read from a part of a text. Any bytes and any places are taken; every function ends in linear time.
+use timing_line::LineKind;
 use timing_line::TimingLine;
 ghost use mathlib.Core.Path.{_≡_};
 ghost use Rattle.format.specs.TimingLines.{timingLine};
 ghost use Rattle.values.specs.Tokens.{partOf};
-ghost use Rattle.timing.specs.TimingLines.{timingLineIs, timingLineAnswer, lineAnswer};
+ghost use Rattle.timing.specs.TimingLines.{timingLineIs, lineKind, timingLineAnswer, lineAnswer};
 
 pub mod timing_line;
 
@@ -15,4 +16,13 @@ pub fn line_of(text: &[u8], from: usize, to: usize) -> TimingLine
     let end = values::least(to, text.len());
     let start = values::least(from, end);
     timing_line::read_timing_line(&text[..end], start)
+}
+
+// What the text from `from` up to `to` is as a timing line, without what it says: the first pass over a file asks no more.
+pub fn kind_of(text: &[u8], from: usize, to: usize) -> LineKind
+    ensures { λ r. ⌜ r ≡ lineKind (timingLineIs (timingLine (partOf (now (text .entry)) from to))) ⌝ }
+{
+    let end = values::least(to, text.len());
+    let start = values::least(from, end);
+    timing_line::read_kind(&text[..end], start)
 }

@@ -6,10 +6,10 @@ use values::times::Stamp;
 ghost use mathlib.Core.Path.{_≡_};
 ghost use Prim.Native.Nat.{_≤_};
 ghost use lib.ListN.{length, drop};
-ghost use Rattle.format.specs.TimingLines.{arrow, arrowAndEnd, timingLine};
+ghost use Rattle.format.specs.TimingLines.{arrow, arrowAndEnd, timings, timingLine};
 ghost use Rattle.values.specs.Times.{stampIs};
 ghost use Rattle.values.specs.Tokens.{tokenFrom};
-ghost use Rattle.timing.specs.TimingLines.{arrowIs, withSettingsIs, lineFrom, timingLineIs};
+ghost use Rattle.timing.specs.TimingLines.{arrowIs, bothIs, timesIs, withSettingsIs, timingLineIs, lineKind};
 
 pub enum ArrowEnd {
     None,
@@ -50,6 +50,48 @@ fn read_end(s: &[u8], at: usize) -> Stamp
     }
 }
 
+// The two times of a timing line.
+pub enum Times {
+    // It is no timing line.
+    Bad,
+    // It is one, with hours above their limit.
+    Over,
+    // In milliseconds, and where the end time ends.
+    Good { start: u64, end: u64, next: usize },
+}
+
+// The times of a line whose start time was read, with hours above their limit or not.
+fn both_times(over: bool, start: u64, end: Stamp) -> Times
+    ensures { λ r. ⌜ r ≡ bothIs over start end ⌝ }
+{
+    match end {
+        Stamp::Bad => Times::Bad,
+        Stamp::Over { next: _ } => Times::Over,
+        Stamp::At { ms, next } => {
+            if over {
+                return Times::Over;
+            }
+            Times::Good {
+                start,
+                end: ms,
+                next,
+            }
+        }
+    }
+}
+
+// The times that stand from `from` on.
+fn read_times(s: &[u8], from: usize) -> Times
+    requires { ⌜ from ≤ length (now s) ⌝ }
+    ensures { λ r. ⌜ r ≡ timesIs (length (now (s .entry))) (timings (drop from (now (s .entry)))) ⌝ }
+{
+    match values::times::read_timestamp(s, values::bytes::past(s, from, ByteKind::White)) {
+        Stamp::Bad => Times::Bad,
+        Stamp::Over { next } => both_times(true, 0, read_end(s, next)),
+        Stamp::At { ms, next } => both_times(false, ms, read_end(s, next)),
+    }
+}
+
 pub struct Timing {
     pub start: u64,
     pub end: u64,
@@ -66,26 +108,11 @@ pub enum TimingLine {
     Good(Timing),
 }
 
-// The line from `at` on, after the start time.
-fn after_start(s: &[u8], at: usize, over: bool, start: u64) -> TimingLine
+fn with_settings(s: &[u8], at: usize, start: u64, end: u64) -> TimingLine
     requires { ⌜ at ≤ length (now s) ⌝ }
-    ensures { λ r. ⌜ r ≡ lineFrom (now (s .entry)) over start (stampIs (length (now (s .entry))) (arrowAndEnd (drop at (now (s .entry))))) ⌝ }
-{
-    match read_end(s, at) {
-        Stamp::Bad => TimingLine::Bad,
-        Stamp::Over { next: _ } => TimingLine::Over,
-        Stamp::At { ms, next } => with_settings(s, next, over, start, ms),
-    }
-}
-
-fn with_settings(s: &[u8], at: usize, over: bool, start: u64, end: u64) -> TimingLine
-    requires { ⌜ at ≤ length (now s) ⌝ }
-    ensures { λ r. ⌜ r ≡ withSettingsIs (now (s .entry)) over start end at ⌝ }
+    ensures { λ r. ⌜ r ≡ withSettingsIs (now (s .entry)) start end at ⌝ }
 {
     let taken = cue_settings::all_settings(s, at, s.len());
-    if over {
-        return TimingLine::Over;
-    }
     if taken.over {
         return TimingLine::Over;
     }
@@ -104,9 +131,37 @@ pub(crate) fn read_timing_line(s: &[u8], from: usize) -> TimingLine
     requires { ⌜ from ≤ length (now s) ⌝ }
     ensures { λ r. ⌜ r ≡ timingLineIs (timingLine (tokenFrom (now (s .entry)) from)) ⌝ }
 {
-    match values::times::read_timestamp(s, values::bytes::past(s, from, ByteKind::White)) {
-        Stamp::Bad => TimingLine::Bad,
-        Stamp::Over { next } => after_start(s, next, true, 0),
-        Stamp::At { ms, next } => after_start(s, next, false, ms),
+    match read_times(s, from) {
+        Times::Bad => TimingLine::Bad,
+        Times::Over => TimingLine::Over,
+        Times::Good { start, end, next } => with_settings(s, next, start, end),
+    }
+}
+
+// What a line is, without what it says.
+pub enum LineKind {
+    Bad,
+    Over,
+    Good,
+}
+
+// What the line is that stands from `from` up to the end of `s`.
+pub(crate) fn read_kind(s: &[u8], from: usize) -> LineKind
+    requires { ⌜ from ≤ length (now s) ⌝ }
+    ensures { λ r. ⌜ r ≡ lineKind (timingLineIs (timingLine (tokenFrom (now (s .entry)) from))) ⌝ }
+{
+    match read_times(s, from) {
+        Times::Bad => LineKind::Bad,
+        Times::Over => LineKind::Over,
+        Times::Good {
+            start: _,
+            end: _,
+            next,
+        } => {
+            if cue_settings::any_over(s, next, s.len()) {
+                return LineKind::Over;
+            }
+            LineKind::Good
+        }
     }
 }

@@ -1,101 +1,48 @@
 -- `timing::timing_line::read_timing_line` meets its contract.
-use mathlib.Core.Path.{_≡_, sym, ap, _∙_}
-use native.Mathlib.Omega.{arith}
-use mathlib.Core.Bool.{true, false, true≢false}
-use Rattle.format.specs.Bytes.{white}
-use Rattle.format.specs.Times.{Time, timestamp, milliseconds, overHours}
-use Rattle.laws.proofs.Runs.{RunAt, run-at}
-use Rattle.values.proofs.StepLaws.{StampRead, steady-timestamp, stamp-bad, stamp-over, stamp-at}
-use Rattle.timing.specs.TimingLines.{timingLineIs}
-use Rattle.timing.proofs.LineLaws.{line-none, line-is}
+use mathlib.Core.Path.{sym, ap, _∙_}
+use Rattle.timing.specs.TimingLines.{lineFrom}
+use Rattle.timing.proofs.LineLaws.{line-is, times-inside}
 use borrow.Author.Needs.{needs}
 use Rattle.timing.proofs.timing_line.read_timing_line.Statement.{statement}
 use Rattle.timing.proofs.timing_line.read_timing_line.Tie as tie
 
-past-requires : tie.Need-past-requires
-past-requires c κs = search needs
-
--- the whitespace before the start time
-whites : (c : tie.After-past) → let args = c .before .before .args in RunAt white (args .s .now) (args .from) (c .past .result)
-whites c = let args = c .before .before .args in run-at white (args .s .now) (args .from) (c .past .result) (omega arith) (c .past .ensures)
-
-read-timestamp-requires : tie.Need-read-timestamp-requires
-read-timestamp-requires c κs = search needs
+read-times-requires : tie.Need-read-times-requires
+read-times-requires c κs = search needs
 
 enum-told : tie.Need-enum-told
 enum-told c = search needs
 
-enum-known-next : tie.Need-enum-known-next
-enum-known-next c = search needs
+enum-told-2 : tie.Need-enum-told-2
+enum-told-2 c = search needs
 
--- a start time above the limit, and one that is not
-over :
-    (c : tie.After-next)
-    → let past = c .before .before .before in
-    (t : Time) × StampRead timestamp (past .before .before .args .s .now) (past .past .result) (c .next .given .0 .0) t × (overHours t ≡ true)
-over c =
-    let past = c .before .before .before in
-    stamp-over timestamp steady-timestamp (past .before .before .args .s .now) (past .past .result) (whites past .inside) (c .next .given .0 .0)
-    (sym (c .next .given .1) ∙ c .before .before .read-timestamp .ensures)
+enum-known-start : tie.Need-enum-known-start
+enum-known-start c = search needs
 
-read :
-    (c : tie.After-ms)
-    → let past = c .before .before .before in
-    (t : Time) × StampRead timestamp (past .before .before .args .s .now) (past .past .result) (c .ms .given .0 .1 .0) t × (overHours t ≡ false) × (milliseconds t ≡ c .ms .given .0 .0)
-read c =
-    let past = c .before .before .before in
-    stamp-at timestamp steady-timestamp (past .before .before .args .s .now) (past .past .result) (whites past .inside) (c .ms .given .0 .0)
-    (c .ms .given .0 .1 .0) (sym (c .ms .given .1) ∙ c .before .before .read-timestamp .ensures)
-
-after-start-requires : tie.Need-after-start-requires
-after-start-requires c κs = over (c .before) .1 .inside
-
-enum-known-ms : tie.Need-enum-known-ms
-enum-known-ms c = search needs
-
-after-start-requires-2 : tie.Need-after-start-requires-2
-after-start-requires-2 c κs = read (c .before) .1 .inside
+with-settings-requires : tie.Need-with-settings-requires
+with-settings-requires c κs =
+    let read = c .before .before .before in
+    let start = read .before .before in
+    times-inside (start .args .s .now) (start .args .from) (start .pre) _ _ _ (sym (c .before .start .given .1) ∙ read .read-times .ensures)
 
 returns : tie.Need-returns
 returns c =
-    let found = c .before .before in
-    let past = found .before in
-    let args = past .before .before .args in
-    let s = args .s .now in
-    let none = stamp-bad timestamp steady-timestamp s (past .past .result) (whites past .inside) (sym (c .enum-told .given .1) ∙ found .read-timestamp .ensures) in
-    sym (ap timingLineIs (line-none s (args .from) (past .past .result) (omega arith) (whites past) none))
+    let read = c .before .before in
+    let start = read .before .before in
+    rw (c .enum-told .given .1) at (ap (lineFrom (start .args .s .now)) (read .read-times .ensures) ∙ line-is (start .args .s .now) (start .args .from) (start .pre))
 
 returns-2 : tie.Need-returns-2
 returns-2 c =
-    let next = c .before .before in
-    let past = next .before .before .before in
-    let args = past .before .before .args in
-    let t = over next in
-    c .after-start .ensures
-    ∙ line-is (args .s .now) (args .from) (past .past .result) (omega arith) (whites past) (next .next .given .0 .0) (t .0) (t .1) true 0 (t .2)
-    (λ e. absurd (true≢false e))
+    let read = c .before .before in
+    let start = read .before .before in
+    rw (c .enum-told2 .given .1) at (ap (lineFrom (start .args .s .now)) (read .read-times .ensures) ∙ line-is (start .args .s .now) (start .args .from) (start .pre))
 
 returns-3 : tie.Need-returns-3
 returns-3 c =
-    let next = c .before .before in
-    let past = next .before .before .before in
-    let args = past .before .before .args in
-    let t = read next in
-    c .after-start2 .ensures
-    ∙ line-is (args .s .now) (args .from) (past .past .result) (omega arith) (whites past) (next .ms .given .0 .1 .0) (t .0) (t .1) false (next .ms .given .0 .0)
-    (t .2) (λ e. t .3)
+    let known = c .before .before in
+    let read = known .before .before in
+    let start = read .before .before in
+    c .with-settings .ensures
+    ∙ rw (known .start .given .1) at (ap (lineFrom (start .args .s .now)) (read .read-times .ensures) ∙ line-is (start .args .s .now) (start .args .from) (start .pre))
 
 pub read-timing-line-spec : {M : Type 1} → statement M
-read-timing-line-spec =
-    tie.close
-    (tie.spec
-    past-requires
-    read-timestamp-requires
-    enum-told
-    enum-known-next
-    after-start-requires
-    enum-known-ms
-    after-start-requires-2
-    returns
-    returns-2
-    returns-3)
+read-timing-line-spec = tie.close (tie.spec read-times-requires enum-told enum-told-2 enum-known-start with-settings-requires returns returns-2 returns-3)

@@ -18,16 +18,13 @@ read c =
     c .all-settings .ensures ∙ ap (λ p. takenIs (cueSettings p)) (part-rest (start .args .s .now) (start .args .at) (start .pre))
 
 returns : tie.Need-returns
-returns c = search needs
+returns c = rw (sym (ap (λ t. t .over) (read (c .before))) ∙ c .if1 .taken)
 
 returns-2 : tie.Need-returns-2
-returns-2 c = rw (c .before .if1 .left, sym (ap (λ t. t .over) (read (c .before .before))) ∙ c .if2 .taken)
-
-returns-3 : tie.Need-returns-3
-returns-3 c =
+returns-2 c =
     let test = c .before .before in
-    let taken = read (test .before .before) in
-    rw (test .before .if1 .left, sym (ap (λ t. t .over) taken) ∙ test .if2 .left, ap (λ t. t .settings) taken, ap (λ t. t .region) taken)
+    let taken = read (test .before) in
+    rw (sym (ap (λ t. t .over) taken) ∙ test .if1 .left, ap (λ t. t .settings) taken, ap (λ t. t .region) taken)
 
 pub with-settings-spec : {M : Type 1} → statement M
-with-settings-spec = tie.close (tie.spec all-settings-requires returns returns-2 returns-3)
+with-settings-spec = tie.close (tie.spec all-settings-requires returns returns-2)
