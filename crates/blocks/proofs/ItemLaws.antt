@@ -21,9 +21,12 @@ use Rattle.laws.proofs.Runs.{run-length, all-run, run-not-all}
 use Rattle.laws.proofs.Standing.{Stands}
 use Rattle.values.specs.Tokens.{spanTo, partOf}
 use Rattle.values.proofs.NumberLaws.{is-empty-not}
-use Rattle.timing.specs.TimingLines.{timingLineIs}
+use Rattle.timing.specs.TimingLines.{timingLineIs, lineKind}
+use Rattle.timing.specs.declared.timing_line.TimingLine.{TimingLine}
+use Rattle.timing.specs.declared.timing_line.TimingLine.the-variants as TimingLine
+use Rattle.format.specs.declared.settings.Span.{Span}
 use Rattle.regions.specs.Changes.{takenIs}
-use Rattle.blocks.specs.Items.{part, afterLine, afterSpan, cueWith, itemIs, timedIs, regionItem}
+use Rattle.blocks.specs.Items.{part, afterLine, afterSpan, cueWith, itemIs, kindIs, timedIs, timedKind, regionItem}
 use Rattle.blocks.proofs.LineLaws.{starts-short}
 
 module _ (s : List ℕ) (a b : ℕ) (h : a ≤ b) (l : b ≤ length s) where
@@ -105,3 +108,9 @@ part-back s p h =
     let b : min (p .place) (p .place + length x) ≡ p .place = omega arith in
     let c : p .place + length x - p .place ≡ length x = omega arith in
     rw (n, a, b, c) h)
+
+-- a timed block is of the kind of its line
+pub kind-timed : (id text : Span) (l : TimingLine) → kindIs (timedIs id text l) ≡ timedKind (lineKind l)
+kind-timed id text TimingLine.Bad = refl
+kind-timed id text TimingLine.Over = refl
+kind-timed id text (TimingLine.Good t) = refl

@@ -17,6 +17,8 @@ use Rattle.format.specs.Lists.{Cue, Item, nothing, cue, style, region, regionOf
 use Rattle.format.specs.Replacing.{firstNumber}
 use Rattle.format.specs.declared.settings.Span.{Span}
 use Rattle.values.specs.Tokens.{spanTo}
+use Rattle.timing.specs.declared.timing_line.LineKind.{LineKind}
+use Rattle.timing.specs.declared.timing_line.LineKind.the-variants as LineKind
 use Rattle.timing.specs.declared.timing_line.TimingLine.{TimingLine}
 use Rattle.timing.specs.declared.timing_line.TimingLine.the-variants as TimingLine
 use Rattle.regions.specs.declared.RegionTaken.{RegionTaken}
@@ -25,6 +27,8 @@ use Rattle.blocks.specs.declared.collecting.Stop.{Stop}
 use Rattle.blocks.specs.declared.Next.{Next}
 use Rattle.blocks.specs.declared.Next.the-variants as Next
 use Rattle.blocks.specs.declared.items.CueRead.{CueRead}
+use Rattle.blocks.specs.declared.items.ItemKind.{ItemKind}
+use Rattle.blocks.specs.declared.items.ItemKind.the-variants as ItemKind
 use Rattle.blocks.specs.declared.items.Item as Made
 use Rattle.blocks.specs.declared.items.Item.the-variants as Read
 
@@ -97,13 +101,23 @@ itemIs (cue c over) = cond over Read.Over (Read.Cue (cueIs c))
 itemIs (style text) = Read.Style (spanIs text)
 itemIs (region r over) = cond over Read.Over (Read.Region (regionIs r))
 
+abbrev pub kindIs : Made.Item → ItemKind
+kindIs Read.Nothing = ItemKind.Nothing
+kindIs Read.Over = ItemKind.Over
+kindIs (Read.Cue c) = ItemKind.Cue
+kindIs (Read.Style t) = ItemKind.Style
+kindIs (Read.Region r) = ItemKind.Region
+
 -- is it a cue or a region with a number above its limit
+abbrev pub kindOver : ItemKind → Bool
+kindOver ItemKind.Nothing = false
+kindOver ItemKind.Over = true
+kindOver ItemKind.Cue = false
+kindOver ItemKind.Style = false
+kindOver ItemKind.Region = false
+
 abbrev pub isOver : Made.Item → Bool
-isOver Read.Nothing = false
-isOver Read.Over = true
-isOver (Read.Cue c) = false
-isOver (Read.Style t) = false
-isOver (Read.Region r) = false
+isOver i = kindOver (kindIs i)
 
 abbrev pub afterSpan : ℕ → ℕ → Span
 afterSpan e to = cond (eqb e to) noSpan (spanTo (e + 1) to)
@@ -113,6 +127,11 @@ timedIs id text TimingLine.Bad = Read.Nothing
 timedIs id text TimingLine.Over = Read.Over
 timedIs id text (TimingLine.Good t) =
     Read.Cue (record { id = id; start = t .start; end = t .end; settings = t .settings; region = t .region; text = text })
+
+abbrev pub timedKind : LineKind → ItemKind
+timedKind LineKind.Bad = ItemKind.Nothing
+timedKind LineKind.Over = ItemKind.Over
+timedKind LineKind.Good = ItemKind.Cue
 
 abbrev pub regionItem : RegionTaken → Made.Item
 regionItem t = cond (t .over) Read.Over (Read.Region (t .region))

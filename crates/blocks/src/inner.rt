@@ -1,9 +1,12 @@
-// What a block gives that was collected. The function is for the crates above: it asks for a block that was found in the text.
+// What a block gives that was collected. The functions are for the crates above: they ask for a block that was found in the text.
 use crate::collecting::Stop;
 use crate::items::CueRead;
 use crate::items::Item;
+use crate::items::ItemKind;
+use crate::items::kind;
 use format::settings::Span;
 use regions::RegionTaken;
+use timing::timing_line::LineKind;
 use timing::timing_line::TimingLine;
 use values::bytes::ByteKind;
 ghost use mathlib.Core.Path.{_≡_};
@@ -12,8 +15,8 @@ ghost use lib.ListN.{length};
 ghost use Rattle.format.specs.Lists.{isWord};
 ghost use Rattle.format.specs.TimingLines.{timingLine};
 ghost use Rattle.values.specs.Tokens.{partOf};
-ghost use Rattle.timing.specs.TimingLines.{timingLineIs};
-ghost use Rattle.blocks.specs.Items.{part, afterSpan, timedIs, regionItem, definitionIs, meaningAt, itemIs};
+ghost use Rattle.timing.specs.TimingLines.{timingLineIs, lineKind};
+ghost use Rattle.blocks.specs.Items.{part, afterSpan, timedIs, regionItem, definitionIs, meaningAt, itemIs, kindIs, timedKind};
 
 // The lines after one that ends at `end`, up to the block's end.
 fn after_line(end: usize, to: usize) -> Span
@@ -110,4 +113,36 @@ pub fn item_at(s: &[u8], from: usize, stop: Stop, seen: bool) -> Item
         return timed_item(s, from, end, Span::NONE, text);
     }
     timed_item(s, first + 1, end, values::tokens::span(from, first), text)
+}
+
+// Is it a cue whose timing line stands from one place up to another.
+fn timed_kind(s: &[u8], from: usize, to: usize) -> ItemKind
+    ensures { λ r. ⌜ r ≡ timedKind (lineKind (timingLineIs (timingLine (partOf (now (s .entry)) from to)))) ⌝ }
+{
+    match timing::kind_of(s, from, to) {
+        LineKind::Bad => ItemKind::Nothing,
+        LineKind::Over => ItemKind::Over,
+        LineKind::Good => ItemKind::Cue,
+    }
+}
+
+// What the block gives that begins at `from`, without what that says: no cue is made.
+pub fn kind_at(s: &[u8], from: usize, stop: Stop, seen: bool) -> ItemKind
+    requires { ⌜ (from < stop .head .first) × (stop .head .first ≤ stop .head .end) × (stop .head .end ≤ stop .to) × (stop .to ≤ length (now s)) ⌝ }
+    ensures { λ r. ⌜ r ≡ kindIs (itemIs (meaningAt seen (now (s .entry)) from stop)) ⌝ }
+{
+    let head = stop.head;
+    let first = head.first;
+    let end = head.end;
+    let to = stop.to;
+    if !head.timed {
+        if first == to {
+            return ItemKind::Nothing;
+        }
+        return kind(definition(s, from, first, to, seen));
+    }
+    if first == end {
+        return timed_kind(s, from, end);
+    }
+    timed_kind(s, first + 1, end)
 }

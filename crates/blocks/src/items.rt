@@ -3,7 +3,7 @@ use format::regions::Region;
 use format::settings::Settings;
 use format::settings::Span;
 ghost use mathlib.Core.Path.{_≡_};
-ghost use Rattle.blocks.specs.Items.{isOver};
+ghost use Rattle.blocks.specs.Items.{isOver, kindIs, kindOver};
 
 pub struct CueRead {
     pub id: Span,
@@ -25,15 +25,42 @@ pub enum Item {
     Region(Region),
 }
 
+// What a block gives, without what that says.
+pub enum ItemKind {
+    Nothing,
+    Over,
+    Cue,
+    Style,
+    Region,
+}
+
+pub fn kind(item: Item) -> ItemKind
+    ensures { λ r. ⌜ r ≡ kindIs item ⌝ }
+{
+    match item {
+        Item::Nothing => ItemKind::Nothing,
+        Item::Over => ItemKind::Over,
+        Item::Cue(_) => ItemKind::Cue,
+        Item::Style(_) => ItemKind::Style,
+        Item::Region(_) => ItemKind::Region,
+    }
+}
+
+pub fn kind_over(kind: ItemKind) -> bool
+    ensures { λ r. ⌜ r ≡ kindOver kind ⌝ }
+{
+    match kind {
+        ItemKind::Nothing => false,
+        ItemKind::Over => true,
+        ItemKind::Cue => false,
+        ItemKind::Style => false,
+        ItemKind::Region => false,
+    }
+}
+
 // Has a cue or a region a number above its limit.
 pub fn is_over(item: Item) -> bool
     ensures { λ r. ⌜ r ≡ isOver item ⌝ }
 {
-    match item {
-        Item::Nothing => false,
-        Item::Over => true,
-        Item::Cue(_) => false,
-        Item::Style(_) => false,
-        Item::Region(_) => false,
-    }
+    kind_over(kind(item))
 }

@@ -1,0 +1,100 @@
+-- `blocks::inner::kind_at` meets its contract.
+use Prim.Native.Nat.{_+_}
+use mathlib.Core.Path.{sym, ap, _∙_}
+use native.Mathlib.Omega.{arith}
+use borrow.Author.Tests.{eq-eqb, ne-eqb, not-true, not-false}
+use Rattle.format.specs.Texts.{emptyPart}
+use Rattle.format.specs.CueSettings.{spanIs}
+use Rattle.format.specs.TimingLines.{timingLine}
+use Rattle.timing.specs.TimingLines.{timingLineIs}
+use Rattle.blocks.specs.Items.{part, afterLine, meaningAt, kindIs}
+use Rattle.blocks.proofs.ItemLaws.{part-of, timed-is, kind-timed}
+use borrow.Author.Needs.{needs}
+use Rattle.blocks.proofs.inner.kind_at.Statement.{statement}
+use Rattle.blocks.proofs.inner.kind_at.Tie as tie
+
+returns : tie.Need-returns
+unfolding meaningAt
+returns c =
+    let a = c .before .before .before .before .before .args in
+    rw (not-true (a .stop .head .timed) (c .before .if1 .taken), eq-eqb (a .stop .head .first) (a .stop .to) (c .if2 .taken))
+
+definition-requires : tie.Need-definition-requires
+definition-requires c κs = search needs
+
+kind-requires : tie.Need-kind-requires
+kind-requires c κs = search needs
+
+returns-2 : tie.Need-returns-2
+unfolding meaningAt
+returns-2 c =
+    let made = c .before in
+    let out = made .before .before in
+    let a = out .before .before .before .before .args in
+    c .kind .ensures
+    ∙ rw (
+      made .definition .ensures,
+      not-true (a .stop .head .timed) (out .if1 .taken),
+      ne-eqb (a .stop .head .first) (a .stop .to) (made .before .if2 .left),
+    )
+
+timed-kind-requires : tie.Need-timed-kind-requires
+timed-kind-requires c κs = search needs
+
+returns-3 : tie.Need-returns-3
+unfolding meaningAt
+returns-3 c =
+    let out = c .before .before in
+    let a = out .before .before .before .before .args in
+    let s = a .s .now in
+    let head = a .stop .head in
+    let line = timingLine (part s (a .from) (head .end)) in
+    let id = emptyPart in
+    let text = afterLine s (head .end) (a .stop .to) in
+    c .timed-kind .ensures
+    ∙ rw (
+      part-of s (a .from) (head .end) (omega arith) (omega arith),
+      not-false (head .timed) (out .if1 .left),
+      eq-eqb (head .first) (head .end) (c .before .if3 .taken),
+    )
+    (sym (kind-timed (spanIs id) (spanIs text) (timingLineIs line)) ∙ ap kindIs (timed-is id text line))
+
+add-timed-kind : tie.Need-add-timed-kind
+add-timed-kind c = search needs
+
+timed-kind-requires-2 : tie.Need-timed-kind-requires-2
+timed-kind-requires-2 c κs = search needs
+
+returns-4 : tie.Need-returns-4
+unfolding meaningAt
+returns-4 c =
+    let other = c .before in
+    let out = other .before in
+    let a = out .before .before .before .before .args in
+    let s = a .s .now in
+    let head = a .stop .head in
+    let apart = other .if3 .left in
+    let line = timingLine (part s (head .first + 1) (head .end)) in
+    let id = part s (a .from) (head .first) in
+    let text = afterLine s (head .end) (a .stop .to) in
+    c .timed-kind2 .ensures
+    ∙ rw (
+      part-of s (head .first + 1) (head .end) (omega (arith, apart)) (omega arith),
+      not-false (head .timed) (out .if1 .left),
+      ne-eqb (head .first) (head .end) apart,
+    )
+    (sym (kind-timed (spanIs id) (spanIs text) (timingLineIs line)) ∙ ap kindIs (timed-is id text line))
+
+pub kind-at-spec : {M : Type 1} → statement M
+kind-at-spec =
+    tie.close
+    (tie.spec
+    returns
+    definition-requires
+    kind-requires
+    returns-2
+    timed-kind-requires
+    returns-3
+    add-timed-kind
+    timed-kind-requires-2
+    returns-4)
