@@ -13,17 +13,22 @@ use Rattle.format.specs.Reading.{readingIs, reading}
 use Rattle.format.specs.declared.Reading.{Reading}
 use Rattle.format.specs.declared.Reading.the-variants as Reading
 use Rattle.blocks.specs.declared.items.Item.{Item}
-use Rattle.blocks.specs.declared.items.Item.the-variants as Item
+use Rattle.blocks.specs.declared.items.ItemKind.{ItemKind}
+use Rattle.blocks.specs.declared.items.ItemKind.the-variants as ItemKind
+use Rattle.blocks.specs.Items.{kindIs}
 use Rattle.reader.specs.declared.counting.Counts.{Counts}
 use Rattle.reader.specs.declared.counting.Tally.{Tally}
 use Rattle.reader.specs.declared.counting.Tally.the-variants as Tally
 
+abbrev pub withKind : ItemKind → Counts → Counts
+withKind ItemKind.Nothing n = n
+withKind ItemKind.Over n = n
+withKind ItemKind.Cue n = record { cues = n .cues + 1; regions = n .regions; styles = n .styles }
+withKind ItemKind.Style n = record { cues = n .cues; regions = n .regions; styles = n .styles + 1 }
+withKind ItemKind.Region n = record { cues = n .cues; regions = n .regions + 1; styles = n .styles }
+
 abbrev pub withItem : Item → Counts → Counts
-withItem Item.Nothing n = n
-withItem Item.Over n = n
-withItem (Item.Cue c) n = record { cues = n .cues + 1; regions = n .regions; styles = n .styles }
-withItem (Item.Style t) n = record { cues = n .cues; regions = n .regions; styles = n .styles + 1 }
-withItem (Item.Region r) n = record { cues = n .cues; regions = n .regions + 1; styles = n .styles }
+withItem i n = withKind (kindIs i) n
 
 -- with these counts so far, what the items to come give
 unfoldable pub tallyWith : Counts → List Format.Item → Tally

@@ -2,6 +2,7 @@
 use blocks::Next;
 use blocks::collecting::is_last;
 use blocks::items::Item;
+use blocks::items::ItemKind;
 use format::Reading;
 ghost use mathlib.Core.Path.{_≡_};
 ghost use mathlib.Core.Bool.{false};
@@ -12,7 +13,7 @@ ghost use Rattle.format.specs.Plain.{firstNotPlain};
 ghost use Rattle.format.specs.Blocks.{between, blocksFrom};
 ghost use Rattle.format.specs.Lists.{itemsFrom};
 ghost use Rattle.blocks.specs.Collecting.{linesFrom};
-ghost use Rattle.reader.specs.Counting.{withItem, tallyIs, countedIs, MeasuredIs};
+ghost use Rattle.reader.specs.Counting.{withKind, withItem, tallyIs, countedIs, MeasuredIs};
 
 // How many entries each list has so far.
 pub struct Counts {
@@ -28,26 +29,34 @@ impl Counts {
         styles: 0,
     };
 
+    // One item of this kind more.
+    pub(crate) fn with_kind(self, kind: ItemKind) -> Counts
+        requires { ⌜ (self .cues ≤ maxText) × (self .regions ≤ maxText) × (self .styles ≤ maxText) ⌝ }
+        ensures { λ r. ⌜ r ≡ withKind kind self ⌝ }
+    {
+        let mut n = self;
+        match kind {
+            ItemKind::Nothing => {}
+            ItemKind::Over => {}
+            ItemKind::Cue => {
+                n.cues += 1;
+            }
+            ItemKind::Style => {
+                n.styles += 1;
+            }
+            ItemKind::Region => {
+                n.regions += 1;
+            }
+        }
+        n
+    }
+
     // One item more.
     pub(crate) fn with(self, item: Item) -> Counts
         requires { ⌜ (self .cues ≤ maxText) × (self .regions ≤ maxText) × (self .styles ≤ maxText) ⌝ }
         ensures { λ r. ⌜ r ≡ withItem item self ⌝ }
     {
-        let mut n = self;
-        match item {
-            Item::Nothing => {}
-            Item::Over => {}
-            Item::Cue(_) => {
-                n.cues += 1;
-            }
-            Item::Style(_) => {
-                n.styles += 1;
-            }
-            Item::Region(_) => {
-                n.regions += 1;
-            }
-        }
-        n
+        self.with_kind(blocks::items::kind(item))
     }
 }
 
@@ -69,11 +78,11 @@ fn count_items(s: &[u8], from: usize) -> Tally
         let Next::Block { from: begin, stop } = next else {
             return Tally::Counts(n);
         };
-        let item = blocks::inner::item_at(s, begin, stop, 0 < n.cues);
-        if blocks::items::is_over(item) {
+        let kind = blocks::inner::kind_at(s, begin, stop, 0 < n.cues);
+        if blocks::items::kind_over(kind) {
             return Tally::Over;
         }
-        n = n.with(item);
+        n = n.with_kind(kind);
         let why = stop.why;
         if is_last(why) {
             return Tally::Counts(n);

@@ -7,11 +7,11 @@ use native.Mathlib.Omega.{arith}
 use lib.Dec.{ltb}
 use lib.ListN.{length}
 use Rattle.format.specs.Lists.{Item, isCue, itemsFrom, itemOver}
-use Rattle.blocks.specs.Items.{meaningAt, NextAt, itemIs, isOver}
+use Rattle.blocks.specs.Items.{meaningAt, NextAt, itemIs, kindOver}
 use Rattle.blocks.specs.declared.collecting.Stop.{Stop}
 use Rattle.reader.specs.declared.counting.Tally.{Tally}
 use Rattle.reader.specs.declared.counting.Tally.the-variants as Tally
-use Rattle.reader.specs.Counting.{withItem, tallyWith, tallyIs}
+use Rattle.reader.specs.Counting.{withKind, withItem, tallyWith, tallyIs}
 use Rattle.blocks.proofs.WalkLaws.{fresh, next-none, next-found, last, items-next, moves, over-is}
 use Rattle.reader.proofs.CountLaws.{tally-end, tally-over, tally-next, seen-next, with-most}
 use borrow.Author.Needs.{needs}
@@ -80,18 +80,18 @@ module _ (c : tie.After-next Inv-loop μ-loop) where
       ∙ ap (tallyWith (at .loop .n)) (sym (items-next s (at .loop .at) from stop (ltb 0 (at .loop .n .cues)) found))
       ∙ at .loop .inv .4
 
-item-at-requires : tie.Need-item-at-requires Inv-loop μ-loop
-item-at-requires c κs =
+kind-at-requires : tie.Need-kind-at-requires Inv-loop μ-loop
+kind-at-requires c κs =
     let b = found (c .before .before) .block in
     (b .starts, b .first-end, b .end-to, omega (arith, b .to-at, b .inside))
 
-is-over-requires : tie.Need-is-over-requires Inv-loop μ-loop
-is-over-requires c κs = search needs
+kind-over-requires : tie.Need-kind-over-requires Inv-loop μ-loop
+kind-over-requires c κs = search needs
 
-over : (c : tie.After-is-over Inv-loop μ-loop) → itemOver (item (c .before .before .before .before)) ≡ c .is-over .result
+over : (c : tie.After-kind-over Inv-loop μ-loop) → itemOver (item (c .before .before .before .before)) ≡ c .kind-over .result
 over c =
     let l = c .before .before .before .before in
-    sym (over-is (item l)) ∙ ap isOver (sym (c .before .item-at .ensures)) ∙ sym (c .is-over .ensures)
+    sym (over-is (item l)) ∙ ap kindOver (sym (c .before .kind-at .ensures)) ∙ sym (c .kind-over .ensures)
 
 returns-2 : tie.Need-returns-2 Inv-loop μ-loop
 returns-2 c =
@@ -99,22 +99,22 @@ returns-2 c =
     let is = itemsFrom (ltb 0 (at l .loop .n .cues) || isCue (item l)) (fresh (s l) (stop l .at)) in
     step l Tally.Over (tally-over (at l .loop .n) (item l) is (over (c .before) ∙ c .if1 .taken))
 
-with-requires : tie.Need-with-requires Inv-loop μ-loop
-with-requires c κs = (omega arith, omega arith, omega arith)
+with-kind-requires : tie.Need-with-kind-requires Inv-loop μ-loop
+with-kind-requires c κs = (omega arith, omega arith, omega arith)
 
 -- what is counted with the item, and what the blocks after it give
 counted :
-    (c : tie.After-with Inv-loop μ-loop)
+    (c : tie.After-with-kind Inv-loop μ-loop)
     → let l = c .before .before .before .before .before .before in
-    c .with .result ≡ withItem (itemIs (item l)) (at l .loop .n)
+    c .with-kind .result ≡ withItem (itemIs (item l)) (at l .loop .n)
 counted c =
     let l = c .before .before .before .before .before .before in
-    c .with .ensures ∙ ap (λ i. withItem i (at l .loop .n)) (c .before .before .before .item-at .ensures)
+    c .with-kind .ensures ∙ ap (λ k. withKind k (at l .loop .n)) (c .before .before .before .kind-at .ensures)
 
 rest :
-    (c : tie.After-with Inv-loop μ-loop)
+    (c : tie.After-with-kind Inv-loop μ-loop)
     → let l = c .before .before .before .before .before .before in
-    tallyWith (c .with .result) (itemsFrom (ltb 0 (c .with .result .cues)) (fresh (s l) (stop l .at)))
+    tallyWith (c .with-kind .result) (itemsFrom (ltb 0 (c .with-kind .result .cues)) (fresh (s l) (stop l .at)))
     ≡ tallyIs (itemsFrom false (fresh (s l) (at l .before .before .args .from)))
 rest c =
     let l = c .before .before .before .before .before .before in
@@ -131,7 +131,7 @@ unfolding itemsFrom
 returns-3 c =
     let w = c .before .before in
     let l = w .before .before .before .before .before .before in
-    let n = w .with .result in
+    let n = w .with-kind .result in
     let none = last (s l) (at l .loop .at) (from l) (stop l) (found l) (sym (c .before .is-last .ensures) ∙ c .if2 .taken) in
     sym (tally-end n) ∙ ap (λ bs. tallyWith n (itemsFrom (ltb 0 (n .cues)) bs)) (sym none) ∙ rest w
 
@@ -156,4 +156,4 @@ loop-again c =
     )
 
 pub count-items-spec : {M : Type 1} → statement M
-count-items-spec = tie.close (tie.spec Inv-loop μ-loop loop-holds next-block-requires enum-known-next enum-told returns item-at-requires is-over-requires returns-2 with-requires is-last-requires returns-3 loop-less loop-again)
+count-items-spec = tie.close (tie.spec Inv-loop μ-loop loop-holds next-block-requires enum-known-next enum-told returns kind-at-requires kind-over-requires returns-2 with-kind-requires is-last-requires returns-3 loop-less loop-again)
