@@ -1,5 +1,6 @@
 -- Settings by the code's answers: a setting by its name, its numbers by what reading them told, and the fold over tokens.
-use Prim.Native.Nat.{ℕ}
+use Prim.Native.Nat.{ℕ, _+_, _-_}
+use lib.ListN.{take, drop}
 use mathlib.Core.Path.{_≡_, refl, sym, ap}
 use mathlib.Core.Bool.{false, true, cond, _||_}
 use mathlib.Core.List.{List, [], _∷_}
@@ -7,7 +8,7 @@ use mathlib.Core.Option.{Option, none, some, Option·elim}
 use Rattle.format.specs.Bytes.{ascii, percent}
 use Rattle.format.specs.Texts.{Part, isEmpty, same, endsWith}
 use Rattle.format.specs.Numbers.{percentage, LineNumber, lineNumber, overLine, isNegative, millionths}
-use Rattle.format.specs.Tokens.{valueOf, Flagged, folded}
+use Rattle.format.specs.Tokens.{nameOf, valueOf, Flagged, folded}
 use Rattle.format.specs.CueSettings.{CueSettings, settingsAfter, isOver, direction, lineAtPercentage, lineCounted, lineAligned, lineChange}
 use Rattle.format.specs.CueSettings.{positionChange, positionAligned, alignment, named, cueChange, changed, cueSetting, spanIs}
 use Rattle.format.specs.declared.settings.Settings.{Settings}
@@ -17,8 +18,9 @@ use Rattle.format.specs.declared.settings.LineAlign.{LineAlign}
 use Rattle.format.specs.declared.settings.PositionAlign.{PositionAlign}
 use Rattle.format.specs.declared.settings.Line.the-variants as Line
 use Rattle.format.specs.declared.settings.Position.the-variants as Position
-use Rattle.laws.proofs.Tests.{by-test}
+use Rattle.laws.proofs.Tests.{by-test, or-false}
 use Rattle.laws.proofs.Changes.{name-after, stepped, folds-as}
+use Rattle.values.specs.Tokens.{tokenFrom, Named}
 use Rattle.values.specs.Numbers.{percentageIs, lineNumberIs}
 use Rattle.values.specs.declared.numbers.Percentage.{Percentage}
 use Rattle.values.specs.declared.numbers.Percentage.the-variants as Percentage
@@ -31,7 +33,8 @@ use Rattle.setting_words.specs.declared.LineAligned.{LineAligned}
 use Rattle.setting_words.specs.declared.LineAligned.the-variants as LineAligned
 use Rattle.setting_words.specs.declared.PositionAligned.{PositionAligned}
 use Rattle.setting_words.specs.declared.PositionAligned.the-variants as PositionAligned
-use Rattle.cue_settings.specs.Steps.{stepIs, takenIs}
+use Rattle.cue_settings.specs.Steps.{stepWith, stepIs, takenIs}
+use Rattle.cue_settings.specs.declared.steps.CueTaken.{CueTaken}
 
 -- a change by what the code was told
 abbrev pub numberTold : Told → LineAlign → Change
@@ -93,6 +96,18 @@ step-is t v =
     let h = cueChange t (v .value .settings) in
     ap (λ n. record { settings = settingsAfter h (v .value .settings); region = n; over = v .over || isOver h })
     (sym (name-after (λ p n. spanIs p ≡ n) refl h {x = valueOf t} {n = v .value .region} refl refl))
+
+-- a token without a name or a value changes nothing; one with both is the setting of that name
+pub unnamed-step : (t : Part) (v : CueTaken) → isEmpty (nameOf t) || isEmpty (valueOf t .bytes) ≡ true → stepIs t v ≡ v
+unfolding cueChange
+unnamed-step t v e = rw e (ap (λ o. record { settings = v .settings; region = v .region; over = o }) (or-false (v .over)))
+
+pub named-step-is :
+    (s : List ℕ) (from c : ℕ) (v : CueTaken)
+    → Named s from c
+    → stepWith (named (take (c - from) (drop from s)) (drop (c + 1) s) (v .settings)) (spanIs (tokenFrom s (c + 1))) v ≡ stepIs (tokenFrom s from) v
+unfolding cueChange
+named-step-is s from c v n = rw (n .both, n .name, n .value)
 
 -- token after token
 pub fold-is : (v : Flagged CueSettings) (ts : List Part) → stepped stepIs (takenIs v) ts ≡ takenIs (folded cueSetting v ts)

@@ -30,7 +30,7 @@ ghost use Rattle.format.specs.Bytes.{percent};
 ghost use Rattle.format.specs.Texts.{endsWith};
 ghost use Rattle.format.specs.Numbers.{percentage, lineNumber};
 ghost use Rattle.format.specs.declared.settings.Change.the-variants as Cases;
-ghost use Rattle.cue_settings.specs.Steps.{stepWith, stepIs, takenIs};
+ghost use Rattle.cue_settings.specs.Steps.{stepWith, takenIs};
 
 fn ends_with_percent(s: &[u8]) -> bool
     ensures { λ r. ⌜ r ≡ endsWith percent (now (s .entry)) ⌝ }
@@ -173,8 +173,14 @@ pub(crate) fn read_settings(s: &[u8], from: usize) -> CueTaken
         let Token::At { from: at, to } = found else {
             return taken;
         };
-        taken = step(&s[..to], at, taken);
         i = to;
+        // A token without a name or a value changes nothing, and the settings are not copied for it.
+        let token = &s[..to];
+        let named = values::inner::tokens::name_end(token, at);
+        let NameEnd::At(colon) = named else {
+            continue;
+        };
+        taken = named_step(&token[at..colon], token, colon + 1, taken);
     }
 }
 
@@ -191,16 +197,5 @@ fn named_step(name: &[u8], s: &[u8], from: usize, taken: CueTaken) -> CueTaken
         settings: settings.changed(change),
         region: change.name_after(values::tokens::span(from, s.len()), region),
         over,
-    }
-}
-
-// The token from `from` up to the end of `s`, taken into account.
-fn step(s: &[u8], from: usize, taken: CueTaken) -> CueTaken
-    requires { ⌜ from ≤ length (now s) ⌝ }
-    ensures { λ r. ⌜ r ≡ stepIs (record { place = from; bytes = drop from (now (s .entry)) }) taken ⌝ }
-{
-    match values::inner::tokens::name_end(s, from) {
-        NameEnd::None => taken,
-        NameEnd::At(colon) => named_step(&s[from..colon], s, colon + 1, taken),
     }
 }
