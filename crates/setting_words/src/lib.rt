@@ -24,15 +24,25 @@ pub enum CueName {
 pub fn cue_name(name: &[u8]) -> CueName
     ensures { λ r. ⌜ r ≡ cueNameIs (now (name .entry)) ⌝ }
 {
-    match index_of(b"region\nvertical\nline\nposition\nsize\nalign", name) {
-        0 => CueName::Region,
-        1 => CueName::Vertical,
-        2 => CueName::Line,
-        3 => CueName::Position,
-        4 => CueName::Size,
-        5 => CueName::Align,
-        _ => CueName::Other,
+    if same_bytes(name, b"region") {
+        return CueName::Region;
     }
+    if same_bytes(name, b"vertical") {
+        return CueName::Vertical;
+    }
+    if same_bytes(name, b"line") {
+        return CueName::Line;
+    }
+    if same_bytes(name, b"position") {
+        return CueName::Position;
+    }
+    if same_bytes(name, b"size") {
+        return CueName::Size;
+    }
+    if same_bytes(name, b"align") {
+        return CueName::Align;
+    }
+    CueName::Other
 }
 
 pub fn direction_of(value: &[u8], current: Direction) -> Direction
