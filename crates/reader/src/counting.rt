@@ -1,7 +1,6 @@
 // The first pass over a plain text: every refusal that it gives, and how many entries each list has.
 use blocks::Next;
 use blocks::collecting::is_last;
-use blocks::items::Item;
 use blocks::items::ItemKind;
 use format::Reading;
 ghost use mathlib.Core.Path.{_≡_};
@@ -13,7 +12,7 @@ ghost use Rattle.format.specs.Plain.{firstNotPlain};
 ghost use Rattle.format.specs.Blocks.{between, blocksFrom};
 ghost use Rattle.format.specs.Lists.{itemsFrom};
 ghost use Rattle.blocks.specs.Collecting.{linesFrom};
-ghost use Rattle.reader.specs.Counting.{withKind, withItem, tallyIs, countedIs, MeasuredIs};
+ghost use Rattle.reader.specs.Counting.{withKind, tallyIs, countedIs, MeasuredIs};
 
 // How many entries each list has so far.
 pub struct Counts {
@@ -49,14 +48,6 @@ impl Counts {
             }
         }
         n
-    }
-
-    // One item more.
-    pub(crate) fn with(self, item: Item) -> Counts
-        requires { ⌜ (self .cues ≤ maxText) × (self .regions ≤ maxText) × (self .styles ≤ maxText) ⌝ }
-        ensures { λ r. ⌜ r ≡ withItem item self ⌝ }
-    {
-        self.with_kind(blocks::items::kind(item))
     }
 }
 

@@ -1,9 +1,11 @@
 // The second pass over a text that is known to be readable: each list's rows are stored at the start of its table.
 use super::counting::Counts;
 use blocks::Next;
+use blocks::collecting::Stop;
 use blocks::collecting::is_last;
 use blocks::items::CueRead;
 use blocks::items::Item;
+use blocks::items::ItemKind;
 use format::rows::CueEntry;
 use format::rows::CueRow;
 use format::rows::RegionIndex;
@@ -12,7 +14,8 @@ use format::rows::StyleRow;
 use format::settings::Span;
 ghost use mathlib.Core.Path.{_≡_};
 ghost use mathlib.Core.Bool.{false};
-ghost use Prim.Native.Nat.{_≤_};
+ghost use Prim.Native.Nat.{_≤_, _<_};
+ghost use lib.Dec.{ltb};
 ghost use lib.ListN.{length, take};
 ghost use Rattle.format.specs.Limits.{maxText};
 ghost use Rattle.format.specs.Blocks.{between, blocksFrom, blocks};
@@ -20,6 +23,7 @@ ghost use Rattle.format.specs.Lists.{items, lists, anyOver};
 ghost use Rattle.format.specs.Rows.{cueRows, regionRows, styleRows};
 ghost use Rattle.format.specs.Answers.{placed};
 ghost use Rattle.blocks.specs.Collecting.{linesFrom};
+ghost use Rattle.blocks.specs.Items.{meaningAt, itemIs, kindIs};
 ghost use Rattle.reader.specs.Filling.{regionAt, entryOf, cuesWith, regionsWith, stylesWith, RoomFor};
 
 // The region of this name among the first `count` rows.
@@ -51,34 +55,40 @@ fn entry(text: &[u8], cue: CueRead, regions: &[RegionRow], count: usize) -> CueE
     }
 }
 
-// Stores an item's row after the rows of its list.
+// Stores the row of what a block gives after the rows of its list, and tells what that was. The item is made here, so that it is not copied.
 fn put(
     text: &[u8],
-    item: Item,
+    from: usize,
+    stop: Stop,
     n: Counts,
     cues: &mut [CueRow],
     regions: &mut [RegionRow],
     styles: &mut [StyleRow],
-)
-    requires { ⌜ RoomFor item n (length (now cues)) (length (now regions)) (length (now styles)) ⌝ }
-    ensures cues { λ _. ⌜ now (cues .exit) ≡ cuesWith (now (text .entry)) item n (now (regions .entry)) (now (cues .entry)) ⌝ }
-    ensures regions { λ _. ⌜ now (regions .exit) ≡ regionsWith item n (now (regions .entry)) ⌝ }
-    ensures styles { λ _. ⌜ now (styles .exit) ≡ stylesWith item n (now (styles .entry)) ⌝ }
+) -> ItemKind
+    requires { ⌜ (from < stop .head .first) × (stop .head .first ≤ stop .head .end) × (stop .head .end ≤ stop .to) × (stop .to ≤ length (now text)) ⌝ }
+    requires { ⌜ RoomFor (itemIs (meaningAt (ltb 0 (n .cues)) (now text) from stop)) n (length (now cues)) (length (now regions)) (length (now styles)) ⌝ }
+    ensures kind { λ r. ⌜ r ≡ kindIs (itemIs (meaningAt (ltb 0 (n .cues)) (now (text .entry)) from stop)) ⌝ }
+    ensures cues { λ _. ⌜ now (cues .exit) ≡ cuesWith (now (text .entry)) (itemIs (meaningAt (ltb 0 (n .cues)) (now (text .entry)) from stop)) n (now (regions .entry)) (now (cues .entry)) ⌝ }
+    ensures regions { λ _. ⌜ now (regions .exit) ≡ regionsWith (itemIs (meaningAt (ltb 0 (n .cues)) (now (text .entry)) from stop)) n (now (regions .entry)) ⌝ }
+    ensures styles { λ _. ⌜ now (styles .exit) ≡ stylesWith (itemIs (meaningAt (ltb 0 (n .cues)) (now (text .entry)) from stop)) n (now (styles .entry)) ⌝ }
 {
-    match item {
-        Item::Nothing => {}
-        Item::Over => {}
+    match blocks::inner::item_at(text, from, stop, 0 < n.cues) {
+        Item::Nothing => ItemKind::Nothing,
+        Item::Over => ItemKind::Over,
         Item::Cue(cue) => {
             let at = n.cues;
             cues[at] = rows::cue_row(entry(text, cue, regions, n.regions));
+            ItemKind::Cue
         }
         Item::Style(part) => {
             let at = n.styles;
             styles[at] = rows::style_row(part);
+            ItemKind::Style
         }
         Item::Region(region) => {
             let at = n.regions;
             regions[at] = rows::region_row(region);
+            ItemKind::Region
         }
     }
 }
@@ -104,13 +114,12 @@ pub(crate) fn fill(
         let Next::Block { from: begin, stop } = next else {
             return;
         };
-        let item = blocks::inner::item_at(text, begin, stop, 0 < n.cues);
-        put(text, item, n, cues, regions, styles);
+        let kind = put(text, begin, stop, n, cues, regions, styles);
         let why = stop.why;
         if is_last(why) {
             return;
         }
-        n = n.with(item);
+        n = n.with_kind(kind);
         at = stop.at;
     }
 }

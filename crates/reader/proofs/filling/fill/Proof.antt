@@ -87,32 +87,28 @@ module _ (c : tie.After-next Inv-loop μ-loop) where
   found : NextAt s (at .loop .at) from stop
   found = next-found s (at .loop .at) (c .before .before .next-block .result) (c .before .before .next-block .ensures) from stop (c .next .given .1)
 
-item-at-requires : tie.Need-item-at-requires Inv-loop μ-loop
-item-at-requires c κs =
-    let b = found (c .before .before) .block in
-    (b .starts, b .first-end, b .end-to, omega (arith, b .to-at, b .inside))
-
 put-requires : tie.Need-put-requires Inv-loop μ-loop
 put-requires c κs =
-    let item = c .before .before .before in
-    let l = item .before .before .before in
+    let l = c .before .before .before .before in
+    let b = found l .block in
     let start = at l .before .before in
     let a = start .args in
-    let own = at l .loop in
-    rw (item .item-at .ensures)
-    (fill-room (s l) (a .cues .now) (a .regions .now) (a .styles .now) (own .at) (from l) (stop l) (found l) (own .n) (own .cues) (own .regions) (own .styles) (own .inv) (fits start))
+    let own = at l .loop in (
+      (b .starts, b .first-end, b .end-to, omega (arith, b .to-at, b .inside)),
+      fill-room (s l) (a .cues .now) (a .regions .now) (a .styles .now) (own .at) (from l) (stop l) (found l) (own .n) (own .cues) (own .regions) (own .styles) (own .inv) (fits start),
+    )
 
 -- the tables with the item's row
 more :
     (c : tie.After-put Inv-loop μ-loop)
-    → let l = c .before .before .before .before .before .before .before in
+    → let l = c .before .before .before .before .before in
     let a = at l .before .before .args in
     let own = at l .loop in
     let i = itemIs (meaningAt (ltb 0 (own .n .cues)) (s l) (from l) (stop l)) in
     Filled (s l) (a .cues .now) (a .regions .now) (a .styles .now) (stop l .at) (withItem i (own .n)) (cuesWith (s l) i (own .n) (own .regions) (own .cues))
     (regionsWith i (own .n) (own .regions)) (stylesWith i (own .n) (own .styles))
 more c =
-    let l = c .before .before .before .before .before .before .before in
+    let l = c .before .before .before .before .before in
     let start = at l .before .before in
     let a = start .args in
     let own = at l .loop in
@@ -122,41 +118,42 @@ is-last-requires : tie.Need-is-last-requires Inv-loop μ-loop
 is-last-requires c κs = search needs
 
 same-length-4 : tie.Need-same-length-4 Inv-loop μ-loop
-same-length-4 c = let stored = c .before .before .before .before .before in stored .put .kept .1 .1 .1 .0 ∙ lengths (at (stored .before .before .before .before .before .before .before)) .0
+same-length-4 c = let stored = c .before .before .before .before .before in stored .put .kept .1 .1 .1 .1 .0 ∙ lengths (at (stored .before .before .before .before .before)) .0
 
 same-length-5 : tie.Need-same-length-5 Inv-loop μ-loop
-same-length-5 c = let stored = c .before .before .before .before .before in stored .put .kept .1 .1 .1 .1 .0 ∙ lengths (at (stored .before .before .before .before .before .before .before)) .1
+same-length-5 c = let stored = c .before .before .before .before .before in stored .put .kept .1 .1 .1 .1 .1 .0 ∙ lengths (at (stored .before .before .before .before .before)) .1
 
 same-length-6 : tie.Need-same-length-6 Inv-loop μ-loop
-same-length-6 c = let stored = c .before .before .before .before .before in stored .put .kept .1 .1 .1 .1 .1 .0 ∙ lengths (at (stored .before .before .before .before .before .before .before)) .2
+same-length-6 c = let stored = c .before .before .before .before .before in stored .put .kept .1 .1 .1 .1 .1 .1 .0 ∙ lengths (at (stored .before .before .before .before .before)) .2
 
 returns-2 : tie.Need-returns-2 Inv-loop μ-loop
 returns-2 c =
     let stored = c .before .before .before .before .before in
-    let item = stored .before .before .before .before in
-    let l = item .before .before .before in
+    let l = stored .before .before .before .before .before in
     let start = at l .before .before in
     let a = start .args in
+    let told = stored .put .ensures .1 in
     let none = last (s l) (at l .loop .at) (from l) (stop l) (found l) (sym (c .before .is-last .ensures) ∙ c .if1 .taken) in
     let full = fill-end (s l) (a .cues .now) (a .regions .now) (a .styles .now) (fits start) _ _ _ _ _ (more stored) none in
-    rw (stored .put .ensures .0, stored .put .ensures .1 .0, stored .put .ensures .1 .1, item .item-at .ensures) (full .0, (full .1, full .2))
+    rw (told .0, told .1 .0, told .1 .1) (full .0, (full .1, full .2))
 
-with-requires : tie.Need-with-requires Inv-loop μ-loop
-with-requires c κs =
-    let at = c .before .before .before .before .before .before .before .before .before .before .before .before .before .before .before in
+with-kind-requires : tie.Need-with-kind-requires Inv-loop μ-loop
+with-kind-requires c κs =
+    let at = c .before .before .before .before .before .before .before .before .before .before .before .before .before in
     let inv = at .loop .inv in
     let pre = at .before .before .pre .0 in
     (omega (arith, inv .cues-most, inv .inside, pre .1), omega (arith, inv .regions-most, inv .inside, pre .1), omega (arith, inv .styles-most, inv .inside, pre .1))
 
 loop-less : tie.Need-loop-less Inv-loop μ-loop
 loop-less c =
-    let l = c .before .before .before .before .before .before .before .before .before .before .before .before .before in
+    let l = c .before .before .before .before .before .before .before .before .before .before .before in
     omega (arith, moves (s l) (at l .loop .at) (from l) (stop l) (found l), found l .block .inside)
 
 loop-again : tie.Need-loop-again Inv-loop μ-loop
 loop-again c =
     let stored = c .before .before .before .before .before .before in
-    rw (c .with .ensures, stored .put .ensures .0, stored .put .ensures .1 .0, stored .put .ensures .1 .1, stored .before .before .before .before .item-at .ensures) (more stored)
+    let told = stored .put .ensures in
+    rw (c .with-kind .ensures, told .0, told .1 .0, told .1 .1 .0, told .1 .1 .1) (more stored)
 
 pub fill-spec : {M : Type 1} → statement M
-fill-spec = tie.close (tie.spec Inv-loop μ-loop loop-holds next-block-requires enum-known-next enum-told same-length same-length-2 same-length-3 returns item-at-requires put-requires is-last-requires same-length-4 same-length-5 same-length-6 returns-2 with-requires loop-less loop-again)
+fill-spec = tie.close (tie.spec Inv-loop μ-loop loop-holds next-block-requires enum-known-next enum-told same-length same-length-2 same-length-3 returns put-requires is-last-requires same-length-4 same-length-5 same-length-6 returns-2 with-kind-requires loop-less loop-again)
