@@ -1,2 +1,3 @@
 -- What the contracts of this crate's own functions say beyond `format`.
 pub mod TimingLines
+pub mod Usual

@@ -7,6 +7,7 @@ ghost use Rattle.values.specs.Tokens.{partOf};
 ghost use Rattle.timing.specs.TimingLines.{timingLineIs, lineKind, timingLineAnswer, lineAnswer};
 
 pub mod timing_line;
+mod usual;
 
 // The text from `from` up to `to` as a timing line.
 pub fn line_of(text: &[u8], from: usize, to: usize) -> TimingLine
