@@ -21,6 +21,7 @@ use Rattle.values.specs.Times.{stampIs}
 use Rattle.values.specs.Tokens.{tokenFrom, partOf}
 use Rattle.values.proofs.StepLaws.{Steady, steady-then, steady-expect, steady-past, steady-got, steady-timestamp, left-at, StampRead}
 use Rattle.timing.specs.declared.timing_line.ArrowEnd.the-variants as ArrowEnd
+use Rattle.timing.specs.Usual.{UsualRead}
 use Rattle.timing.specs.TimingLines.{arrowIs, bothIs, timesIs, withSettingsIs, lineFrom, timingLineIs, lineKind, timingLineAnswer, lineAnswer}
 use Rattle.timing.specs.declared.timing_line.Times.{Times}
 use Rattle.timing.specs.declared.timing_line.Times.the-variants as Times
@@ -142,6 +143,13 @@ module _ (s : List ℕ) (from w : ℕ) (r : RunAt white s from w) where
 
       pub times-are : bothIs o ms (stampIs (length s) (arrowAndEnd (drop next s))) ≡ timesIs (length s) (timings (drop from s))
       times-are = rw timings-are (both-of (arrowAndEnd (drop next s)))
+
+-- the times of the usual form
+pub usual-is :
+    (s : List ℕ) (at start end : ℕ) → UsualRead s at start end → Times.Good start end (at + 29) ≡ timesIs (length s) (timings (drop at s))
+usual-is s at start end u =
+    let place : length s - length (drop (at + 29) s) ≡ at + 29 = omega (arith, length-drop (at + 29) s, u .inside) in
+    rw (u .reads, u .first-within, u .second-within, place, u .start-is, u .end-is)
 
 steady-timings : Steady timings
 unfolding timings

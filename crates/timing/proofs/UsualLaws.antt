@@ -7,17 +7,22 @@ use native.Mathlib.Omega.{arith}
 use lib.Dec.{leb}
 use lib.ListN.{length, getD, take, drop, length-append, length-drop}
 use lib.Seq.{drop-cons, drop-drop, take-all}
-use borrow.Author.Tests.{leb-true, le-ltb, lt-ltb, eq-eqb, ne-eqb}
+use borrow.Author.Tests.{leb-true, le-ltb, eq-eqb, ne-eqb}
 use Rattle.format.specs.Bytes.{digit, white, tab, lf, formFeed, cr, space, hyphen, fullStop, colon, greater}
 use Rattle.format.specs.Limits.{maxHours}
 use Rattle.format.specs.Texts.{startsWith, isEmpty, run, pastRun}
 use Rattle.format.specs.Numbers.{numberFrom}
 use Rattle.format.specs.Times.{got, onGot, expect, hoursFirst, field, threeValues, inRange, lastSteps, timestamp, milliseconds, overHours}
 use Rattle.format.specs.TimingLines.{arrowAndEnd, timings}
-use Rattle.laws.proofs.Tests.{and-left, or-true}
+use Rattle.laws.proofs.Tests.{and-left, and-right, or-true}
 use Rattle.laws.proofs.Runs.{run-stop, run-next, pastRun-drop}
-use Rattle.timing.specs.Usual.{DigitIs, NoDigit, DigitsRead, ClockRead, ArrowRead, UsualRead}
+use Rattle.timing.specs.Usual.{NoDigit, DigitsRead, ClockRead, ArrowRead, UsualRead}
 use Rattle.timing.proofs.LineLaws.{arrow-here}
+
+pub digit-range : (b : ℕ) → digit b ≡ true → (0x30 ≤ b) × (b ≤ 0x39)
+unfolding digit
+digit-range b e =
+    (leb-true 0x30 b (and-left (leb 0x30 b) (leb b 0x39) e), leb-true b 0x39 (and-right (leb 0x30 b) (leb b 0x39) e))
 
 -- digits read one after the other
 number-snoc : (n : ℕ) (ds : List ℕ) (b : ℕ) → numberFrom n (ds ++ (b ∷ [])) ≡ numberFrom n ds * 10 + (b - 0x30)
@@ -25,27 +30,26 @@ unfolding numberFrom
 number-snoc n [] b = refl
 number-snoc n (d ∷ ds) b = number-snoc (n * 10 + (d - 0x30)) ds b
 
-pub digits-one : (x : List ℕ) (k d : ℕ) → k < length x → DigitIs (getD x k 0) d → d < 10 → DigitsRead x k 1 d
+pub digits-one : (x : List ℕ) (k d : ℕ) → k < length x → digit (getD x k 0) ≡ true → d ≡ getD x k 0 - 0x30 → DigitsRead x k 1 d
 unfolding numberFrom
-digits-one x k d h i l =
-    let first = i .is ∙ lt-ltb d 10 l in
-    record { digits = getD x k 0 ∷ []; size = refl; value = omega (arith, i .value l); first = first; found = run-next digit x k h first }
+digits-one x k d h i v =
+    record { digits = getD x k 0 ∷ []; size = refl; value = omega arith; first = i; found = run-next digit x k h i }
 
 pub digits-next :
     (x : List ℕ) (k n v d : ℕ)
     → k + n < length x
     → DigitsRead x k n v
-    → DigitIs (getD x (k + n) 0) d
-    → d < 10
+    → digit (getD x (k + n) 0) ≡ true
+    → d ≡ getD x (k + n) 0 - 0x30
     → DigitsRead x k (n + 1) (v * 10 + d)
-digits-next x k n v d h r i l =
+digits-next x k n v d h r i e =
     let b = getD x (k + n) 0 in
-    let e : k + n + 1 ≡ k + (n + 1) = omega arith in
-    let more = rw e at (run-next digit x (k + n) h (i .is ∙ lt-ltb d 10 l)) in
+    let place : k + n + 1 ≡ k + (n + 1) = omega arith in
+    let more = rw place at (run-next digit x (k + n) h i) in
     record {
       digits = r .digits ++ (b ∷ []);
       size = omega (arith, length-append (r .digits) (b ∷ []), r .size);
-      value = number-snoc 0 (r .digits) b ∙ rw (r .value, sym (i .value l));
+      value = number-snoc 0 (r .digits) b ∙ rw (r .value, e);
       first = r .first;
       found = r .found ∙ ap (λ y. r .digits ++ y) more ∙ sym (append-assoc (r .digits) (b ∷ []) (run digit (drop (k + (n + 1)) x)));
     }
@@ -81,9 +85,9 @@ unfolding pastRun
 no-white x k h e = rw (drop-cons x k 0 h, e)
 
 white-digit : (b : ℕ) → digit b ≡ true → white b ≡ false
-unfolding digit white
+unfolding white
 white-digit b e =
-    let low = leb-true 0x30 b (and-left (leb 0x30 b) (leb b 0x39) e) in
+    let low = digit-range b e in
     rw (
       ne-eqb b space (λ q. omega arith),
       ne-eqb b tab (λ q. omega arith),

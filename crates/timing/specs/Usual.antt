@@ -1,9 +1,8 @@
 -- What reading the usual form of the times finds, said by the steps of `format`.
-use Prim.Native.Nat.{ℕ, _+_, _-_, _≤_, _<_}
+use Prim.Native.Nat.{ℕ, _+_, _≤_}
 use mathlib.Core.Path.{_≡_}
 use mathlib.Core.Bool.{Bool, true, false}
 use mathlib.Core.List.{List, [], _++_}
-use lib.Dec.{ltb}
 use lib.ListN.{length, getD, drop}
 use Rattle.format.specs.Bytes.{digit, white}
 use Rattle.format.specs.Texts.{run, pastRun}
@@ -12,11 +11,6 @@ use Rattle.format.specs.Times.{got, Time, timestamp, milliseconds, overHours}
 use Rattle.format.specs.TimingLines.{arrowAndEnd, timings}
 use Rattle.timing.specs.declared.usual.Usual.{Usual}
 use Rattle.timing.specs.declared.usual.Usual.the-variants as Usual
-
--- a digit has a value below 10
-pub record DigitIs (b v : ℕ) : Type 0 where
-  pub is : digit b ≡ ltb v 10
-  pub value : v < 10 → v ≡ b - 0x30
 
 -- a text that does not begin with a digit
 abbrev pub NoDigit : List ℕ → Type 0

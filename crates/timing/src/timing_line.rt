@@ -1,4 +1,6 @@
 // A cue's timing line.
+use crate::usual::Usual;
+use crate::usual::usual_times;
 use format::settings::Settings;
 use format::settings::Span;
 use values::bytes::ByteKind;
@@ -80,8 +82,8 @@ fn both_times(over: bool, start: u64, end: Stamp) -> Times
     }
 }
 
-// The times that stand from `from` on.
-fn read_times(s: &[u8], from: usize) -> Times
+// The times that stand from `from` on, in whatever form.
+fn read_any_times(s: &[u8], from: usize) -> Times
     requires { ⌜ from ≤ length (now s) ⌝ }
     ensures { λ r. ⌜ r ≡ timesIs (length (now (s .entry))) (timings (drop from (now (s .entry)))) ⌝ }
 {
@@ -89,6 +91,21 @@ fn read_times(s: &[u8], from: usize) -> Times
         Stamp::Bad => Times::Bad,
         Stamp::Over { next } => both_times(true, 0, read_end(s, next)),
         Stamp::At { ms, next } => both_times(false, ms, read_end(s, next)),
+    }
+}
+
+// The times that stand from `from` on. Most lines are of the usual form, and that is tried first.
+fn read_times(s: &[u8], from: usize) -> Times
+    requires { ⌜ from ≤ length (now s) ⌝ }
+    ensures { λ r. ⌜ r ≡ timesIs (length (now (s .entry))) (timings (drop from (now (s .entry)))) ⌝ }
+{
+    match usual_times(s, from) {
+        Usual::Other => read_any_times(s, from),
+        Usual::Times { start, end } => Times::Good {
+            start,
+            end,
+            next: from + 29,
+        },
     }
 }
 

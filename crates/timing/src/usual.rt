@@ -1,20 +1,17 @@
 // The usual form of a timing line's times, `dd:dd:dd.ddd --> dd:dd:dd.ddd`, read at fixed places: nearly every line has it, and no loop is
 // needed. A number that its digits cannot give stands for "not of this form", so that one test finds a wrong byte or a value too great.
 ghost use mathlib.Core.Path.{_≡_};
-ghost use Prim.Native.Nat.{_+_, _*_, _≤_, _<_};
+ghost use mathlib.Core.Bool.{true};
+ghost use Prim.Native.Nat.{_+_, _-_, _*_, _≤_, _<_};
 ghost use lib.ListN.{length};
-ghost use Rattle.timing.specs.Usual.{DigitIs, DigitsRead, ClockRead, ArrowIs, NoDigitIs, UsualIs};
+ghost use Rattle.format.specs.Bytes.{digit};
+ghost use Rattle.timing.specs.Usual.{DigitsRead, ClockRead, ArrowIs, NoDigitIs, UsualIs};
 
-// The value of the digit `b`; 10 where it is none.
+// The value of a digit.
 fn value_of(b: u8) -> u64
-    ensures { λ r. ⌜ DigitIs b r ⌝ }
+    requires { ⌜ digit b ≡ true ⌝ }
+    ensures { λ r. ⌜ (r ≡ b - 0x30) × (r < 10) ⌝ }
 {
-    if b < b'0' {
-        return 10;
-    }
-    if b'9' < b {
-        return 10;
-    }
     (b - b'0') as u64
 }
 
@@ -23,25 +20,12 @@ fn two(t: &[u8], k: usize) -> u64
     requires { ⌜ k + 2 ≤ length (now t) ⌝ }
     ensures { λ r. ⌜ (r < 100 → DigitsRead (now (t .entry)) k 2 r) ⌝ }
 {
-    let tens = value_of(t[k]);
-    let ones = value_of(t[k + 1]);
-    if tens < 10 && ones < 10 {
-        return tens * 10 + ones;
+    let a = t[k];
+    let b = t[k + 1];
+    if values::bytes::is_digit(a) && values::bytes::is_digit(b) {
+        return value_of(a) * 10 + value_of(b);
     }
     100
-}
-
-// The value of the three digits at `k`; 1000 where they are none.
-fn three(t: &[u8], k: usize) -> u64
-    requires { ⌜ k + 3 ≤ length (now t) ⌝ }
-    ensures { λ r. ⌜ (r < 1_000 → DigitsRead (now (t .entry)) k 3 r) ⌝ }
-{
-    let first = two(t, k);
-    let ones = value_of(t[k + 2]);
-    if first < 100 && ones < 10 {
-        return first * 10 + ones;
-    }
-    1_000
 }
 
 fn in_milliseconds(hours: u64, minutes: u64, seconds: u64, thousandths: u64) -> u64
@@ -55,23 +39,30 @@ fn in_milliseconds(hours: u64, minutes: u64, seconds: u64, thousandths: u64) -> 
 const NO_TIME: u64 = 360_000_000;
 
 // The time `dd:dd:dd.ddd` that a text begins with, minutes and seconds at most 59; NO_TIME where it begins otherwise.
+// The slice goes to no function but `two`, which is small enough to become a part of this one: handing it to one that is called for the
+// last three digits made all of it three times slower.
 fn clock(t: &[u8]) -> u64
     requires { ⌜ 12 ≤ length (now t) ⌝ }
     ensures { λ r. ⌜ (r < 360_000_000 → ClockRead (now (t .entry)) r) ⌝ }
 {
     let hours = two(t, 0);
-    let minutes = two(t, 3);
-    let seconds = two(t, 6);
-    let thousandths = three(t, 9);
-    if t[2] == b':'
-        && t[5] == b':'
-        && t[8] == b'.'
-        && hours < 100
-        && minutes < 60
-        && seconds < 60
-        && thousandths < 1_000
-    {
-        return in_milliseconds(hours, minutes, seconds, thousandths);
+    if hours < 100 && t[2] == b':' {
+        let minutes = two(t, 3);
+        if minutes < 60 && t[5] == b':' {
+            let seconds = two(t, 6);
+            if seconds < 60 && t[8] == b'.' {
+                let hundredths = two(t, 9);
+                let last = t[11];
+                if hundredths < 100 && values::bytes::is_digit(last) {
+                    return in_milliseconds(
+                        hours,
+                        minutes,
+                        seconds,
+                        hundredths * 10 + value_of(last),
+                    );
+                }
+            }
+        }
     }
     NO_TIME
 }
@@ -94,10 +85,10 @@ fn no_digit(t: &[u8]) -> bool
     if t.len() == 0 {
         return true;
     }
-    if 9 < value_of(t[0]) {
-        return true;
+    if values::bytes::is_digit(t[0]) {
+        return false;
     }
-    false
+    true
 }
 
 pub enum Usual {
@@ -117,9 +108,11 @@ pub(crate) fn usual_times(s: &[u8], at: usize) -> Usual
         return Usual::Other;
     }
     let start = clock(t);
-    let end = clock(&t[17..]);
-    if start < NO_TIME && arrow_here(&t[12..]) && end < NO_TIME && no_digit(&t[29..]) {
-        return Usual::Times { start, end };
+    if start < NO_TIME && arrow_here(&t[12..]) {
+        let end = clock(&t[17..]);
+        if end < NO_TIME && no_digit(&t[29..]) {
+            return Usual::Times { start, end };
+        }
     }
     Usual::Other
 }
