@@ -4,8 +4,8 @@ use mathlib.Core.Path.{_≡_, refl, sym, ap, _∙_}
 use mathlib.Core.List.{List, [], _∷_, _++_}
 use native.Mathlib.Omega.{arith}
 use lib.Dec.{ltb}
-use lib.ListN.{length, take, drop, set, length-set, length-drop, take-append-drop}
-use lib.Seq.{sets, sets-eq, set-out, length-take-le}
+use lib.ListN.{length, drop, set, length-set}
+use lib.Seq.{sets, sets-eq, set-out}
 use borrow.Author.Tests.{lt-ltb, le-ltb, ltb-true, ltb-false}
 use Rattle.format.specs.Limits.{maxFile}
 use Rattle.format.specs.Answers.{placed}
@@ -119,26 +119,6 @@ room-outside at (b ∷ x) out h =
 
 pub puts-outside : {x out : List ℕ} {at n : ℕ} → n ≡ placeAfter at x → length out ≤ at → Puts x at out n out
 puts-outside {x} {out} {at} {n} e h = record { place = e; holds = sym (room-outside at x out h) }
-
--- one that ends within the room stands there, and of one that ends beyond it what fits
-pub puts-whole :
-    (x out : List ℕ) (at n : ℕ) → n ≡ at + length x → n ≤ maxFile → n ≤ length out → Puts x at out n (take at out ++ x ++ drop n out)
-puts-whole x out at n e m l =
-    record {
-      place = omega (arith, place-within at x (omega arith));
-      holds = sym (room-within at x out (omega arith) ∙ sets-eq x out at (omega arith) ∙ ap (λ j. take at out ++ x ++ drop j out) (sym e));
-    }
-
-pub puts-part :
-    (x out : List ℕ) (at k n : ℕ)
-    → n ≡ at + length x → n ≤ maxFile → at + k ≡ length out → length out ≤ n
-    → Puts x at out n (take at out ++ take k x ++ drop (length out) out)
-puts-part x out at k n e m h l =
-    let fits = length-take-le k x (omega arith) in
-    let rest = length-drop k x in
-    let start = puts-whole (take k x) out at (length out) (omega arith) (omega arith) (omega arith) in
-    let place = place-within (length out) (drop k x) (omega arith) in
-    puts-as (take-append-drop k x) (start then puts-outside (omega arith) (omega (arith, puts-length start)))
 
 -- what was put from the start: its length is told exactly unless it is above the greatest length of a file, and then that is told
 pub measured : {x out o : List ℕ} {n : ℕ} → Puts x 0 out n o → length x ≤ maxFile → n ≡ length x

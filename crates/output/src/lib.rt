@@ -4,6 +4,7 @@ ghost use mathlib.Core.Path.{_≡_};
 ghost use mathlib.Core.List.{List, [], _∷_};
 ghost use Prim.Native.Nat.{ℕ, _+_, _≤_};
 ghost use lib.ListN.{length, set};
+ghost use lib.Seq.{sets};
 ghost use Rattle.format.specs.Limits.{maxFile};
 ghost use Rattle.format.specs.Written.{lastDigits, atLeast, decimalIn, withoutZeros, fraction};
 ghost use Rattle.format.specs.Written.{writtenTime, writtenDecimal, writtenPercentage};
@@ -67,6 +68,21 @@ fn each_byte(s: &[u8], out: &mut [u8], at: usize) -> usize
     n
 }
 
+// Stores a text from a place on; nothing outside the room, and that costs no time.
+pub fn store_text(s: &[u8], out: &mut [u8], at: usize)
+    ensures { λ _. ⌜ now (out .exit) ≡ sets (now (out .entry)) at (now (s .entry)) ⌝ }
+{
+    if out.len() <= at {
+        return;
+    }
+    let fits = out.len() - at;
+    if s.len() <= fits {
+        copy(s, &mut out[at..at + s.len()]);
+        return;
+    }
+    copy(&s[..fits], &mut out[at..]);
+}
+
 // A text. What of it lies outside the room costs no time.
 pub fn bytes(s: &[u8], out: &mut [u8], at: usize) -> usize
     ensures { λ r. ⌜ Puts (now (s .entry)) at (now (out .entry)) r (now (out .exit)) ⌝ }
@@ -78,12 +94,7 @@ pub fn bytes(s: &[u8], out: &mut [u8], at: usize) -> usize
     if format::MAX_FILE < to {
         return each_byte(s, out, at);
     }
-    if to <= out.len() {
-        copy(s, &mut out[at..to]);
-        return to;
-    }
-    let fits = out.len() - at;
-    copy(&s[..fits], &mut out[at..]);
+    store_text(s, out, at);
     to
 }
 
