@@ -29,7 +29,7 @@ pub stored-within :
     (at : ℕ) (x room : List ℕ) → at + length x ≤ length room → stored at x room ≡ take at room ++ x ++ drop (at + length x) room
 stored-within at x room h = stored-sets at x room ∙ sets-eq x room at h
 
--- nothing, one byte, one text after another, and the same text by another name
+-- nothing, one byte, a text, one text after another, and the same text by another name
 pub stores-none : (at : ℕ) (room : List ℕ) → Stores [] at room at room
 unfolding stored
 stores-none at room = record { place = omega arith; holds = refl }
@@ -37,6 +37,9 @@ stores-none at room = record { place = omega arith; holds = refl }
 pub stores-byte : {b at : ℕ} {room after : List ℕ} → after ≡ set room at b → Stores (b ∷ []) at room (at + 1) after
 unfolding stored
 stores-byte e = record { place = refl; holds = e }
+
+pub stores-text : {x room after : List ℕ} {at : ℕ} → after ≡ sets room at x → Stores x at room (at + length x) after
+stores-text {x} {room} {after} {at} e = record { place = refl; holds = e ∙ sym (stored-sets at x room) }
 
 infixl 5 _then_
 pub _then_ :

@@ -1,5 +1,6 @@
 // The strings of a cue text's nodes put into a room: text with its escapes decoded, classes and annotations with their separators
 // collapsed. A room that is too short stores what fits; the place that each function hands back goes on all the same.
+use output::store_text;
 use values::bytes::is_digit;
 use values::bytes::is_white;
 use values::bytes::same_bytes;
@@ -28,18 +29,13 @@ fn put(b: u8, room: &mut [u8], at: usize) -> usize
     at + 1
 }
 
-// A text as it is.
+// A text as it is. What of it lies outside the room costs no time.
 fn put_part(s: &[u8], room: &mut [u8], at: usize) -> usize
     requires { ⌜ (length (now s) ≤ maxText) × (at ≤ 3 * maxText) ⌝ }
     ensures { λ r. ⌜ Stores (now (s .entry)) at (now (room .entry)) r (now (room .exit)) ⌝ }
 {
-    let mut i = 0;
-    let mut n = at;
-    while i < s.len() {
-        n = put(s[i], room, n);
-        i += 1;
-    }
-    n
+    store_text(s, room, at);
+    at + s.len()
 }
 
 fn is_between(low: u8, b: u8, high: u8) -> bool
