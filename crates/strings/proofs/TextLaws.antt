@@ -10,16 +10,16 @@ use lib.ListN.{length, getD, take, drop, length-append, length-take, length-drop
 use lib.Seq.{take-suc, drop-cons, getD-drop}
 use borrow.Author.Tests.{eq-eqb, ne-eqb, le-ltb, ltb-true, ltb-false}
 use Rattle.format.specs.Bytes.{ascii, ampersand, semicolon, fullStop, alphanumeric}
-use Rattle.format.specs.Texts.{same, isEmpty, bytesAt}
+use Rattle.format.specs.Texts.{same, isEmpty, bytesAt, run, pastRun, beforeFirst}
 use Rattle.format.specs.Lines.{onFirst, before, splitAt}
 use Rattle.format.specs.CueText.{escaped, parted, collapsing, collapsedFrom, collapsed}
 use Rattle.format.specs.Trees.{classString}
 use Rattle.tokenizer.specs.Decoding.{added, holding, decodedFrom, decoded}
 use Rattle.tokenizer.specs.Tags.{splitStops, classesOf}
 use Rattle.laws.proofs.Tests.{by-test, and-false}
-use Rattle.laws.proofs.Runs.{same-is}
+use Rattle.laws.proofs.Runs.{same-is, run-at}
 use Rattle.strings.specs.Stores.{separates, one}
-use Rattle.strings.specs.Turns.{heldAfter, word, left}
+use Rattle.strings.specs.Turns.{heldAfter, plainEnd, word, left}
 
 -- what a byte adds to held bytes
 pub added-mark : (held : List ℕ) (c : ℕ) → c ≡ ampersand → added held c ≡ held
@@ -230,6 +230,35 @@ module _ (s : List ℕ) (held i : ℕ) (h : held ≤ i) where
         let beyond = part-length s (heldAfter held i c) (i + 1) within (omega arith) in
         let is = ap length (held-next c refl) in
         omega (arith, added-length (bytesAt s held i) c)
+
+-- up to its first `&` a text decodes to itself
+decoded-plain : (s : List ℕ) → decodedFrom [] s ≡ beforeFirst ampersand s ++ decodedFrom [] (pastRun (λ b. not (eqb b ampersand)) s)
+unfolding decodedFrom added holding beforeFirst run pastRun
+decoded-plain [] = refl
+decoded-plain (c ∷ s) = by-test (eqb c ampersand) (λ e. rw (e, e) refl) (λ n. rw n (ap (λ r. c ∷ r) (decoded-plain s)))
+
+-- so bytes that stand for themselves are put as they are
+pub record PlainAt (s : List ℕ) (held i end : ℕ) : Type 0 where
+  pub from : i ≤ end
+  pub inside : end ≤ length s
+  pub turn :
+      i < end → decodedFrom (bytesAt s held i) (drop i s) ≡ bytesAt s i end ++ decodedFrom (bytesAt s end end) (drop end s)
+
+pub plain-at : (s : List ℕ) (held i end : ℕ) → held ≤ i → i ≤ length s → end ≡ plainEnd s held i → PlainAt s held i end
+unfolding plainEnd beforeFirst bytesAt
+plain-at s held i end h l e =
+    by-test (ltb held i)
+    (λ m. let is : end ≡ i = rw m at e in record { from = omega arith; inside = omega arith; turn = λ k. absurd (omega arith) })
+    (λ m.
+    let same : held ≡ i = omega (arith, ltb-false held i m) in
+    let r = run-at (λ b. not (eqb b ampersand)) s i end l (rw m at e) in
+    record {
+      from = r .from;
+      inside = r .inside;
+      turn = λ k.
+          rw (same, part-none s i, part-none s end)
+          (decoded-plain (drop i s) ∙ rw (r .bytes, r .past) refl);
+    })
 
 pub decode-start : (s : List ℕ) → decodedFrom (bytesAt s 0 0) (drop 0 s) ≡ decoded s
 unfolding decoded bytesAt

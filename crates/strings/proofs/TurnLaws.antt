@@ -11,7 +11,7 @@ use Rattle.format.specs.Texts.{bytesAt}
 use Rattle.format.specs.CueText.{collapsed}
 use Rattle.tokenizer.specs.Decoding.{added, decodedFrom, decoded}
 use Rattle.strings.specs.Stores.{Stores, separates, one}
-use Rattle.strings.specs.Turns.{heldAfter, word, left}
+use Rattle.strings.specs.Turns.{heldAfter, plainEnd, word, left}
 use Rattle.strings.proofs.StoreLaws.{Storing, storing-none, storing-next, storing-same, storing-end, storing-last}
 use Rattle.strings.proofs.TextLaws.{
   held-within,
@@ -19,6 +19,8 @@ use Rattle.strings.proofs.TextLaws.{
   decode-next,
   decode-room,
   decode-end,
+  plain-at,
+  part-length,
   collapse-start,
   collapse-separator,
   collapse-word,
@@ -54,6 +56,16 @@ module _ (s : List ℕ) (at : ℕ) (room₀ : List ℕ) where
           beyond = held-within s held i (f .beyond) (getD s i 0);
           short = omega (arith, g .place, f .short, decode-room s held i (f .beyond) l);
           storing = storing-next (f .storing) (decode-next s held i (f .beyond) l) g;
+        }
+
+    pub decoding-plain : {to : ℕ} → to ≡ plainEnd s held i → i < to → Stores (bytesAt s i to) n room m r → Decoding s at room₀ r to to m
+    decoding-plain {to} e l g =
+        let plain = plain-at s held i to (f .beyond) (f .within) e in
+        record {
+          within = plain .inside;
+          beyond = omega arith;
+          short = omega (arith, g .place, f .short, f .beyond, part-length s i to (plain .from) (plain .inside));
+          storing = storing-next (f .storing) (plain .turn l) g;
         }
 
     pub decoding-ends : length s ≤ i → Stores (bytesAt s held (length s)) n room m r → Stores (decoded s) at room₀ m r

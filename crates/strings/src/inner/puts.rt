@@ -1,8 +1,10 @@
 // The strings of a cue text's nodes put into a room: text with its escapes decoded, classes and annotations with their separators
 // collapsed. A room that is too short stores what fits; the place that each function hands back goes on all the same.
 use output::store_text;
+use values::bytes::ByteKind;
 use values::bytes::is_digit;
 use values::bytes::is_white;
+use values::bytes::past;
 use values::bytes::same_bytes;
 ghost use mathlib.Core.Path.{_≡_};
 ghost use mathlib.Core.Bool.{_&&_};
@@ -16,7 +18,7 @@ ghost use Rattle.format.specs.Limits.{maxText};
 ghost use Rattle.format.specs.CueText.{escaped, collapsed};
 ghost use Rattle.tokenizer.specs.Decoding.{added, decoded};
 ghost use Rattle.strings.specs.Stores.{Stores, separates, one};
-ghost use Rattle.strings.specs.Turns.{heldAfter, word};
+ghost use Rattle.strings.specs.Turns.{heldAfter, plainEnd, word};
 
 // One byte.
 fn put(b: u8, room: &mut [u8], at: usize) -> usize
@@ -121,7 +123,17 @@ fn held_after(held: usize, i: usize, c: u8) -> usize
     i + 1
 }
 
-// A text with its escapes decoded.
+// Where the bytes end that stand for themselves from `i` on.
+fn plain_end(s: &[u8], held: usize, i: usize) -> usize
+    ensures { λ r. ⌜ r ≡ plainEnd (now (s .entry)) held i ⌝ }
+{
+    if held < i {
+        return i;
+    }
+    past(s, i, ByteKind::Until(b'&'))
+}
+
+// A text with its escapes decoded. Bytes that stand for themselves are put together, others one by one.
 fn decode(s: &[u8], room: &mut [u8], at: usize) -> usize
     requires { ⌜ (length (now s) ≤ maxText) × (at ≤ maxText) ⌝ }
     ensures { λ r. ⌜ Stores (decoded (now (s .entry))) at (now (room .entry)) r (now (room .exit)) ⌝ }
@@ -130,9 +142,16 @@ fn decode(s: &[u8], room: &mut [u8], at: usize) -> usize
     let mut i = 0;
     let mut n = at;
     while i < s.len() {
-        n = put_added(&s[held..i], s[i], room, n);
-        held = held_after(held, i, s[i]);
-        i += 1;
+        let to = plain_end(s, held, i);
+        if i < to {
+            n = put_part(&s[i..to], room, n);
+            held = to;
+            i = to;
+        } else {
+            n = put_added(&s[held..i], s[i], room, n);
+            held = held_after(held, i, s[i]);
+            i += 1;
+        }
     }
     put_part(&s[held..], room, n)
 }
