@@ -92,9 +92,5 @@ storing-same {whole} {rest} {y} {room} {r} {at} {n} f e = rw (sym e) f
 pub storing-end : {whole room r : List ℕ} {at n : ℕ} → Storing whole [] at room n r → Stores whole at room n r
 storing-end {whole} {room} {r} {at} {n} f = stores-as (sym (f .whole-is ∙ append-nil (f .done))) (f .so-far)
 
-pub storing-last :
-    {whole rest room r q : List ℕ} {at n m : ℕ} → Storing whole rest at room n r → Stores rest n r m q → Stores whole at room m q
-storing-last {whole} {rest} {room} {r} {q} {at} {n} {m} f g = stores-as (sym (f .whole-is)) (f .so-far then g)
-
 pub storing-length : {whole rest room r : List ℕ} {at n : ℕ} → Storing whole rest at room n r → length r ≡ length room
 storing-length {whole} {rest} {room} {r} {at} {n} f = stores-length (f .so-far)

@@ -1,63 +1,25 @@
 -- Laws of the strings: their lengths, the turns of the loops that put them, and a tag's classes as one string.
 use Prim.Native.Nat.{ℕ, suc, _+_, _-_, _≤_, _<_}
 use mathlib.Core.Path.{_≡_, refl, sym, ap, _∙_}
-use mathlib.Core.Bool.{Bool, true, false, not, cond, _&&_, false≢true}
-use mathlib.Core.List.{List, [], _∷_, _++_}
+use mathlib.Core.Bool.{Bool, true, false, not, cond, false≢true}
+use mathlib.Core.List.{List, [], _∷_, _++_, append-nil, append-assoc}
 use native.Mathlib.Omega.{arith}
 use native.Mathlib.Numerals.{add-one}
 use lib.Dec.{eqb, ltb}
-use lib.ListN.{length, getD, take, drop, length-append, length-take, length-drop, drop-of-length-le}
-use lib.Seq.{take-suc, drop-cons, getD-drop}
-use borrow.Author.Tests.{eq-eqb, ne-eqb, le-ltb, ltb-true, ltb-false}
-use Rattle.format.specs.Bytes.{ascii, ampersand, semicolon, fullStop, alphanumeric}
+use lib.ListN.{length, getD, drop, length-append, length-take, length-drop, drop-of-length-le, List·getD-eq-default}
+use lib.Seq.{drop-cons, append-snoc}
+use borrow.Author.Tests.{eqb-true, le-ltb, ltb-true, ltb-false}
+use Rattle.format.specs.Bytes.{ascii, ampersand, semicolon, fullStop, digit, alphanumeric}
 use Rattle.format.specs.Texts.{same, isEmpty, bytesAt, run, pastRun, beforeFirst}
 use Rattle.format.specs.Lines.{onFirst, before, splitAt}
 use Rattle.format.specs.CueText.{escaped, parted, collapsing, collapsedFrom, collapsed}
 use Rattle.format.specs.Trees.{classString}
 use Rattle.tokenizer.specs.Decoding.{added, holding, decodedFrom, decoded}
 use Rattle.tokenizer.specs.Tags.{splitStops, classesOf}
-use Rattle.laws.proofs.Tests.{by-test, and-false}
-use Rattle.laws.proofs.Runs.{same-is, run-at}
+use Rattle.laws.proofs.Tests.{by-test, and-left, and-right}
+use Rattle.laws.proofs.Runs.{RunAt, same-is, run-at, run-moves}
 use Rattle.strings.specs.Stores.{separates, one}
-use Rattle.strings.specs.Turns.{heldAfter, plainEnd, word, left}
-
--- what a byte adds to held bytes
-pub added-mark : (held : List ℕ) (c : ℕ) → c ≡ ampersand → added held c ≡ held
-unfolding added
-added-mark [] c e = rw (eq-eqb c ampersand e) refl
-added-mark (b ∷ held) c e = rw (eq-eqb c ampersand e) refl
-
-pub added-data : (held : List ℕ) (c : ℕ) → (c ≡ ampersand → ⊥) → length held ≡ 0 → added held c ≡ c ∷ []
-unfolding added
-added-data [] c n h = rw (ne-eqb c ampersand n) refl
-added-data (b ∷ held) c n h = absurd (omega arith)
-
-pub added-held : (held : List ℕ) (c : ℕ) → (c ≡ ampersand → ⊥) → 0 < length held → alphanumeric c ≡ true → added held c ≡ []
-unfolding added
-added-held [] c n h a = absurd (omega arith)
-added-held (b ∷ held) c n h a = rw (ne-eqb c ampersand n, a) refl
-
-pub added-escape :
-    (held : List ℕ) (c : ℕ)
-    → (c ≡ ampersand → ⊥)
-    → 0 < length held
-    → alphanumeric c ≡ false
-    → c ≡ semicolon
-    → added held c ≡ escaped held
-unfolding added
-added-escape [] c n h a e = absurd (omega arith)
-added-escape (b ∷ held) c n h a e = rw (ne-eqb c ampersand n, a, eq-eqb c semicolon e) refl
-
-pub added-other :
-    (held : List ℕ) (c : ℕ)
-    → (c ≡ ampersand → ⊥)
-    → 0 < length held
-    → alphanumeric c ≡ false
-    → (c ≡ semicolon → ⊥)
-    → added held c ≡ held ++ c ∷ []
-unfolding added
-added-other [] c n h a m = absurd (omega arith)
-added-other (b ∷ held) c n h a m = rw (ne-eqb c ampersand n, a, ne-eqb c semicolon m) refl
+use Rattle.strings.specs.Turns.{pieceEnd, escapes, word, left}
 
 -- an escape is longer than what it stands for
 escape-is :
@@ -124,149 +86,92 @@ pub decoded-length : (s : List ℕ) → length (decoded s) ≤ length s
 unfolding decoded
 decoded-length s = omega (arith, decoded-from-length [] s)
 
--- what is held after a byte
-holding-mark : (held : List ℕ) (c : ℕ) → eqb c ampersand ≡ true → holding held c ≡ c ∷ []
-unfolding holding
-holding-mark [] c e = rw e refl
-holding-mark (b ∷ held) c e = rw e refl
+-- up to its first ampersand a text decodes to itself
+decoded-plain : (s : List ℕ) → decoded s ≡ beforeFirst ampersand s ++ decoded (pastRun (λ b. not (eqb b ampersand)) s)
+unfolding decoded decodedFrom added holding beforeFirst run pastRun
+decoded-plain [] = refl
+decoded-plain (c ∷ s) = by-test (eqb c ampersand) (λ e. rw (e, e) refl) (λ n. rw n (ap (λ r. c ∷ r) (decoded-plain s)))
 
-holding-data : (held : List ℕ) (c : ℕ) → eqb c ampersand ≡ false → length held ≡ 0 → holding held c ≡ []
-unfolding holding
-holding-data [] c e h = rw e refl
-holding-data (b ∷ held) c e h = absurd (omega arith)
+-- an ampersand and its name decode to what they stand for where a semicolon follows, and else to themselves
+closed : List ℕ → List ℕ → List ℕ
+closed held [] = held
+closed held (c ∷ s) = cond (eqb c semicolon) (escaped held ++ decoded s) (held ++ decoded (c ∷ s))
 
-holding-more :
-    (held : List ℕ) (c : ℕ)
-    → eqb c ampersand ≡ false
-    → 0 < length held
-    → alphanumeric c ≡ true
-    → holding held c ≡ held ++ c ∷ []
-unfolding holding
-holding-more [] c e h a = absurd (omega arith)
-holding-more (b ∷ held) c e h a = rw (e, a) refl
+no-mark : (c : ℕ) → alphanumeric c ≡ true → eqb c ampersand ≡ false
+unfolding alphanumeric digit
+no-mark c a = by-test (eqb c ampersand) (λ e. absurd (false≢true (rw (eqb-true c ampersand e) at a))) (λ n. n)
 
-holding-other : (held : List ℕ) (c : ℕ) → eqb c ampersand ≡ false → alphanumeric c ≡ false → holding held c ≡ []
-unfolding holding
-holding-other [] c e a = rw e refl
-holding-other (b ∷ held) c e a = rw (e, a) refl
+name-closed :
+    (b : ℕ) (held : List ℕ) (c : ℕ) (s : List ℕ) → alphanumeric c ≡ false → decodedFrom (b ∷ held) (c ∷ s) ≡ closed (b ∷ held) (c ∷ s)
+unfolding decodedFrom added holding decoded closed
+name-closed b held c s a =
+    by-test (eqb c ampersand)
+    (λ e. rw (eqb-true c ampersand e) refl)
+    (λ n. by-test (eqb c semicolon) (λ e. rw (n, a, e) refl) (λ m. rw (n, a, m) (append-assoc (b ∷ held) (c ∷ []) (decodedFrom [] s))))
 
--- a part of a text: none, and one byte more
-part-none : (s : List ℕ) (i : ℕ) → bytesAt s i i ≡ []
-unfolding bytesAt
-part-none s i = let e : i - i ≡ 0 = omega arith in rw e refl
+decoded-name : (b : ℕ) (held s : List ℕ) → decodedFrom (b ∷ held) s ≡ closed (b ∷ held ++ run alphanumeric s) (pastRun alphanumeric s)
+unfolding decodedFrom added holding run pastRun closed
+decoded-name b held [] = ap (λ h. b ∷ h) (sym (append-nil held))
+decoded-name b held (c ∷ s) =
+    by-test (alphanumeric c)
+    (λ y. rw (no-mark c y, y) (decoded-name b (held ++ c ∷ []) s ∙ rw append-snoc refl))
+    (λ n. name-closed b held c s n ∙ rw (n, append-nil held) refl)
 
-part-next : (s : List ℕ) (from i : ℕ) → from ≤ i → i < length s → bytesAt s from (i + 1) ≡ bytesAt s from i ++ getD s i 0 ∷ []
-unfolding bytesAt
-part-next s from i h l =
-    let e : i + 1 - from ≡ suc (i - from) = omega arith in
-    let at : from + (i - from) ≡ i = omega arith in
-    let within : i - from < length (drop from s) = omega (arith, length-drop from s) in
-    ap (λ k. take k (drop from s)) e
-    ∙ take-suc (drop from s) (i - from) 0 within
-    ∙ ap (λ b. bytesAt s from i ++ b ∷ []) (getD-drop from s (i - from) 0 ∙ ap (λ k. getD s k 0) at)
+decoded-mark : (c : ℕ) (s : List ℕ) → eqb c ampersand ≡ true → decoded (c ∷ s) ≡ closed (c ∷ run alphanumeric s) (pastRun alphanumeric s)
+unfolding decoded decodedFrom added holding
+decoded-mark c s e = rw e (decoded-name c [] s)
 
+closed-plain : (x s : List ℕ) (end : ℕ) → eqb (getD s end 0) semicolon ≡ false → closed x (drop end s) ≡ x ++ decoded (drop end s)
+unfolding closed decoded decodedFrom
+closed-plain x s end n =
+    by-test (ltb end (length s))
+    (λ t. rw (drop-cons s end 0 (ltb-true end (length s) t), n) refl)
+    (λ f. rw (drop-of-length-le s {i = end} (ltb-false end (length s) f)) (sym (append-nil x)))
+
+-- the piece of a text at a place
 pub part-length : (s : List ℕ) (from to : ℕ) → from ≤ to → to ≤ length s → length (bytesAt s from to) ≡ to - from
 unfolding bytesAt
 part-length s from to h l = omega (arith, length-take (to - from) (drop from s), length-drop from s)
 
-module _ (s : List ℕ) (held i : ℕ) (h : held ≤ i) where
-  pub held-within : (c : ℕ) → heldAfter held i c ≤ i + 1
-  unfolding heldAfter
-  held-within c =
-      by-test (eqb c ampersand)
-      (λ e. rw e (omega arith))
-      (λ n. by-test (ltb held i && alphanumeric c) (λ e. rw (n, e) (omega arith)) (λ e. rw (n, e) (omega arith)))
+module _ (s : List ℕ) (i end : ℕ) (l : i < length s) (is : end ≡ pieceEnd s i) where
+  plain-run : eqb (getD s i 0) ampersand ≡ false → RunAt (λ b. not (eqb b ampersand)) s i end
+  unfolding pieceEnd beforeFirst
+  plain-run n = run-at (λ b. not (eqb b ampersand)) s i end (omega arith) (rw n at is)
 
-  module _ (l : i < length s) where
-    held-mark : (c : ℕ) → eqb c ampersand ≡ true → getD s i 0 ≡ c → bytesAt s (heldAfter held i c) (i + 1) ≡ holding (bytesAt s held i) c
-    unfolding heldAfter
-    held-mark c e at =
-        rw (e, holding-mark (bytesAt s held i) c e)
-        (part-next s i i (omega arith) l ∙ rw (part-none s i, at) refl)
+  mark-run : eqb (getD s i 0) ampersand ≡ true → RunAt alphanumeric s (i + 1) end
+  unfolding pieceEnd
+  mark-run e = run-at alphanumeric s (i + 1) end (omega arith) (rw e at is)
 
-    held-more :
-        (c : ℕ)
-        → eqb c ampersand ≡ false
-        → alphanumeric c ≡ true
-        → getD s i 0 ≡ c
-        → bytesAt s (heldAfter held i c) (i + 1) ≡ holding (bytesAt s held i) c
-    unfolding heldAfter
-    held-more c n a at =
-        let size = part-length s held i h (omega arith) in
-        by-test (ltb held i)
-        (λ m. rw (n, m, a, holding-more (bytesAt s held i) c n (omega (arith, ltb-true held i m)) a) (part-next s held i h l ∙ rw at refl))
-        (λ m. rw (n, m, holding-data (bytesAt s held i) c n (omega (arith, ltb-false held i m))) (part-none s (i + 1)))
+  pub piece-within : (i < end) × (end ≤ length s)
+  piece-within =
+      by-test (eqb (getD s i 0) ampersand)
+      (λ e. let r = mark-run e in (omega (arith, r .from), r .inside))
+      (λ n. let r = plain-run n in (run-moves (λ b. not (eqb b ampersand)) s i end r l (rw n refl), r .inside))
 
-    held-other :
-        (c : ℕ)
-        → eqb c ampersand ≡ false
-        → alphanumeric c ≡ false
-        → bytesAt s (heldAfter held i c) (i + 1) ≡ holding (bytesAt s held i) c
-    unfolding heldAfter
-    held-other c n a =
-        rw (n, a, and-false (ltb held i) false refl, holding-other (bytesAt s held i) c n a) (part-none s (i + 1))
+  mark-closed : eqb (getD s i 0) ampersand ≡ true → decoded (drop i s) ≡ closed (bytesAt s i end) (drop end s)
+  unfolding bytesAt
+  mark-closed e =
+      let r = mark-run e in
+      let k : end - i ≡ suc (end - (i + 1)) = omega (arith, r .from) in
+      rw (k, drop-cons s i 0 l)
+      (decoded-mark (getD s i 0) (drop (suc i) s) e ∙ rw (← (add-one i), r .bytes, r .past) refl)
 
-    held-next : (c : ℕ) → getD s i 0 ≡ c → bytesAt s (heldAfter held i c) (i + 1) ≡ holding (bytesAt s held i) c
-    held-next c at =
-        by-test (eqb c ampersand)
-        (λ e. held-mark c e at)
-        (λ n. by-test (alphanumeric c) (λ a. held-more c n a at) (λ a. held-other c n a))
+  pub piece-escape :
+      escapes s i end ≡ true → (end < length s) × (decoded (drop i s) ≡ escaped (bytesAt s i end) ++ decoded (drop (end + 1) s))
+  unfolding escapes closed
+  piece-escape e =
+      let mark = and-left (eqb (getD s i 0) ampersand) (eqb (getD s end 0) semicolon) e in
+      let semicolons = and-right (eqb (getD s i 0) ampersand) (eqb (getD s end 0) semicolon) e in
+      by-test (ltb end (length s))
+      (λ t. let h = ltb-true end (length s) t in (h, mark-closed mark ∙ rw (add-one end, drop-cons s end 0 h, semicolons) refl))
+      (λ f. absurd (false≢true (rw (List·getD-eq-default s 0 {n = end} (ltb-false end (length s) f)) at semicolons)))
 
-    -- a turn of decoding: what is left after it, and that what it puts is no longer than what it lets go
-    pub decode-next :
-        decodedFrom (bytesAt s held i) (drop i s)
-        ≡ added (bytesAt s held i) (getD s i 0)
-        ++ decodedFrom (bytesAt s (heldAfter held i (getD s i 0)) (i + 1)) (drop (i + 1) s)
-    unfolding decodedFrom
-    decode-next =
-        ap (decodedFrom (bytesAt s held i)) (drop-cons s i 0 l)
-        ∙ rw (held-next (getD s i 0) refl, add-one i) refl
-
-    pub decode-room : length (added (bytesAt s held i) (getD s i 0)) + held ≤ heldAfter held i (getD s i 0)
-    decode-room =
-        let c = getD s i 0 in
-        let size = part-length s held i h (omega arith) in
-        let within = held-within c in
-        let beyond = part-length s (heldAfter held i c) (i + 1) within (omega arith) in
-        let is = ap length (held-next c refl) in
-        omega (arith, added-length (bytesAt s held i) c)
-
--- up to its first `&` a text decodes to itself
-decoded-plain : (s : List ℕ) → decodedFrom [] s ≡ beforeFirst ampersand s ++ decodedFrom [] (pastRun (λ b. not (eqb b ampersand)) s)
-unfolding decodedFrom added holding beforeFirst run pastRun
-decoded-plain [] = refl
-decoded-plain (c ∷ s) = by-test (eqb c ampersand) (λ e. rw (e, e) refl) (λ n. rw n (ap (λ r. c ∷ r) (decoded-plain s)))
-
--- so bytes that stand for themselves are put as they are
-pub record PlainAt (s : List ℕ) (held i end : ℕ) : Type 0 where
-  pub from : i ≤ end
-  pub inside : end ≤ length s
-  pub turn :
-      i < end → decodedFrom (bytesAt s held i) (drop i s) ≡ bytesAt s i end ++ decodedFrom (bytesAt s end end) (drop end s)
-
-pub plain-at : (s : List ℕ) (held i end : ℕ) → held ≤ i → i ≤ length s → end ≡ plainEnd s held i → PlainAt s held i end
-unfolding plainEnd beforeFirst bytesAt
-plain-at s held i end h l e =
-    by-test (ltb held i)
-    (λ m. let is : end ≡ i = rw m at e in record { from = omega arith; inside = omega arith; turn = λ k. absurd (omega arith) })
-    (λ m.
-    let same : held ≡ i = omega (arith, ltb-false held i m) in
-    let r = run-at (λ b. not (eqb b ampersand)) s i end l (rw m at e) in
-    record {
-      from = r .from;
-      inside = r .inside;
-      turn = λ k.
-          rw (same, part-none s i, part-none s end)
-          (decoded-plain (drop i s) ∙ rw (r .bytes, r .past) refl);
-    })
-
-pub decode-start : (s : List ℕ) → decodedFrom (bytesAt s 0 0) (drop 0 s) ≡ decoded s
-unfolding decoded bytesAt
-decode-start s = refl
-
-pub decode-end : (s : List ℕ) (held i : ℕ) → i ≡ length s → decodedFrom (bytesAt s held i) (drop i s) ≡ bytesAt s held (length s)
-unfolding decodedFrom
-decode-end s held i e = rw (e, drop-of-length-le s {i = length s} (omega arith)) refl
+  pub piece-plain : escapes s i end ≡ false → decoded (drop i s) ≡ bytesAt s i end ++ decoded (drop end s)
+  unfolding escapes bytesAt beforeFirst
+  piece-plain e =
+      by-test (eqb (getD s i 0) ampersand)
+      (λ y. mark-closed y ∙ closed-plain (bytesAt s i end) s end (rw y at e))
+      (λ n. let r = plain-run n in decoded-plain (drop i s) ∙ rw (r .bytes, r .past) refl)
 
 -- collapsing takes nothing but separators in, and puts no more of them out
 parted-length : (b : ℕ) (s : List ℕ) → length (parted b s) ≤ length s + 1

@@ -1,26 +1,24 @@
 -- What the two loops keep from byte to byte, and that a turn keeps it.
 use Prim.Native.Nat.{ℕ, _+_, _≤_, _<_}
-use mathlib.Core.Path.{_≡_, sym}
+use mathlib.Core.Path.{_≡_, sym, ap}
 use mathlib.Core.Bool.{Bool, true, false, cond, false≢true}
 use mathlib.Core.List.{List}
 use native.Mathlib.Omega.{arith}
 use lib.Dec.{ltb}
-use lib.ListN.{length, getD, drop}
+use lib.ListN.{length, getD, drop, drop-of-length-le}
 use borrow.Author.Tests.{lt-ltb, ltb-true}
 use Rattle.format.specs.Texts.{bytesAt}
-use Rattle.format.specs.CueText.{collapsed}
-use Rattle.tokenizer.specs.Decoding.{added, decodedFrom, decoded}
+use Rattle.format.specs.CueText.{escaped, collapsed}
+use Rattle.tokenizer.specs.Decoding.{decodedFrom, decoded}
 use Rattle.strings.specs.Stores.{Stores, separates, one}
-use Rattle.strings.specs.Turns.{heldAfter, plainEnd, word, left}
-use Rattle.strings.proofs.StoreLaws.{Storing, storing-none, storing-next, storing-same, storing-end, storing-last}
+use Rattle.strings.specs.Turns.{pieceEnd, escapes, word, left}
+use Rattle.strings.proofs.StoreLaws.{Storing, storing-none, storing-next, storing-same, storing-end}
 use Rattle.strings.proofs.TextLaws.{
-  held-within,
-  decode-start,
-  decode-next,
-  decode-room,
-  decode-end,
-  plain-at,
   part-length,
+  escaped-length,
+  piece-within,
+  piece-escape,
+  piece-plain,
   collapse-start,
   collapse-separator,
   collapse-word,
@@ -28,48 +26,42 @@ use Rattle.strings.proofs.TextLaws.{
   word-length,
 }
 
--- decoding: what is held is still to be put, and what was put is no longer than what was let go
-pub record Decoding (s : List ℕ) (at : ℕ) (room₀ room : List ℕ) (held i n : ℕ) : Type 0 where
+-- decoding: what was put is no longer than the pieces that were passed
+pub record Decoding (s : List ℕ) (at : ℕ) (room₀ room : List ℕ) (i n : ℕ) : Type 0 where
   pub within : i ≤ length s
-  pub beyond : held ≤ i
-  pub short : n ≤ at + held
-  pub storing : Storing (decoded s) (decodedFrom (bytesAt s held i) (drop i s)) at room₀ n room
+  pub short : n ≤ at + i
+  pub storing : Storing (decoded s) (decoded (drop i s)) at room₀ n room
 
 module _ (s : List ℕ) (at : ℕ) (room₀ : List ℕ) where
-  pub decoding-starts : Decoding s at room₀ room₀ 0 0 at
-  decoding-starts =
-      record {
-        within = omega arith;
-        beyond = omega arith;
-        short = omega arith;
-        storing = storing-same (storing-none (decoded s) at room₀) (sym (decode-start s));
-      }
+  pub decoding-starts : Decoding s at room₀ room₀ 0 at
+  decoding-starts = record { within = omega arith; short = omega arith; storing = storing-none (decoded s) at room₀ }
 
-  module _ (room : List ℕ) (held i n : ℕ) (f : Decoding s at room₀ room held i n) {r : List ℕ} {m : ℕ} where
-    pub decoding-again :
-        i < length s
-        → Stores (added (bytesAt s held i) (getD s i 0)) n room m r
-        → Decoding s at room₀ r (heldAfter held i (getD s i 0)) (i + 1) m
-    decoding-again l g =
-        record {
-          within = omega arith;
-          beyond = held-within s held i (f .beyond) (getD s i 0);
-          short = omega (arith, g .place, f .short, decode-room s held i (f .beyond) l);
-          storing = storing-next (f .storing) (decode-next s held i (f .beyond) l) g;
-        }
+  module _ (room : List ℕ) (i n : ℕ) (f : Decoding s at room₀ room i n) where
+    module _ {r : List ℕ} {m end : ℕ} (l : i < length s) (is : end ≡ pieceEnd s i) where
+      pub escape-put : escapes s i end ≡ true → Stores (escaped (bytesAt s i end)) n room m r → Decoding s at room₀ r (end + 1) m
+      escape-put e g =
+          let in-text = piece-within s i end l is in
+          let turn = piece-escape s i end l is e in
+          let size = part-length s i end (omega arith) (in-text .1) in
+          record {
+            within = omega arith;
+            short = omega (arith, g .place, f .short, escaped-length (bytesAt s i end));
+            storing = storing-next (f .storing) (turn .1) g;
+          }
 
-    pub decoding-plain : {to : ℕ} → to ≡ plainEnd s held i → i < to → Stores (bytesAt s i to) n room m r → Decoding s at room₀ r to to m
-    decoding-plain {to} e l g =
-        let plain = plain-at s held i to (f .beyond) (f .within) e in
-        record {
-          within = plain .inside;
-          beyond = omega arith;
-          short = omega (arith, g .place, f .short, f .beyond, part-length s i to (plain .from) (plain .inside));
-          storing = storing-next (f .storing) (plain .turn l) g;
-        }
+      pub plain-put : escapes s i end ≡ false → Stores (bytesAt s i end) n room m r → Decoding s at room₀ r end m
+      plain-put e g =
+          let in-text = piece-within s i end l is in
+          let size = part-length s i end (omega arith) (in-text .1) in
+          record {
+            within = in-text .1;
+            short = omega (arith, g .place, f .short);
+            storing = storing-next (f .storing) (piece-plain s i end l is e) g;
+          }
 
-    pub decoding-ends : length s ≤ i → Stores (bytesAt s held (length s)) n room m r → Stores (decoded s) at room₀ m r
-    decoding-ends l g = storing-last (storing-same (f .storing) (decode-end s held i (omega arith))) g
+    pub decoding-ends : length s ≤ i → Stores (decoded s) at room₀ n room
+    unfolding decoded decodedFrom
+    decoding-ends l = storing-end (storing-same (f .storing) (ap decoded (drop-of-length-le s l)))
 
 -- collapsing: a gap stands open only after a word, and what was put is no longer than what was passed, an open gap's separator counted
 pub record Collapsing (s : List ℕ) (stops : Bool) (at : ℕ) (room₀ room : List ℕ) (i n : ℕ) (gap : Bool) : Type 0 where

@@ -1,20 +1,21 @@
--- What one byte of a text does to what is put: the state that the loops keep from byte to byte.
+-- What one piece or one byte of a text does to what is put: what the loops go by.
 use Prim.Native.Nat.{ℕ, _+_}
 use mathlib.Core.Bool.{Bool, false, cond, _&&_}
 use mathlib.Core.List.{List, [], _∷_}
-use lib.Dec.{eqb, ltb}
-use lib.ListN.{length, drop}
-use Rattle.format.specs.Bytes.{ampersand, alphanumeric}
-use Rattle.format.specs.Texts.{beforeFirst}
+use lib.Dec.{eqb}
+use lib.ListN.{length, getD, drop}
+use Rattle.format.specs.Bytes.{ampersand, semicolon, alphanumeric}
+use Rattle.format.specs.Texts.{run, beforeFirst}
 use Rattle.format.specs.CueText.{parted, collapsedFrom}
 
--- where the held bytes begin after the byte at `i`, given where they began before it
-unfoldable pub heldAfter : ℕ → ℕ → ℕ → ℕ
-heldAfter held i c = cond (eqb c ampersand) i (cond (ltb held i && alphanumeric c) held (i + 1))
+-- where the piece ends that stands at `i`: an ampersand and the letters and digits after it, or the bytes before the next ampersand
+unfoldable pub pieceEnd : List ℕ → ℕ → ℕ
+pieceEnd s i =
+    cond (eqb (getD s i 0) ampersand) (i + 1 + length (run alphanumeric (drop (i + 1) s))) (i + length (beforeFirst ampersand (drop i s)))
 
--- where the bytes end that stand for themselves from `i` on: before the next `&`, and at once while bytes are held
-unfoldable pub plainEnd : List ℕ → ℕ → ℕ → ℕ
-plainEnd s held i = cond (ltb held i) i (i + length (beforeFirst ampersand (drop i s)))
+-- is it an escape: it begins with an ampersand, and a semicolon follows
+unfoldable pub escapes : List ℕ → ℕ → ℕ → Bool
+escapes s i end = eqb (getD s i 0) ampersand && eqb (getD s end 0) semicolon
 
 -- a byte that is no separator, after the one separator where a gap stands open
 unfoldable pub word : Bool → ℕ → ℕ → List ℕ

@@ -11,14 +11,14 @@ ghost use mathlib.Core.Bool.{_&&_};
 ghost use mathlib.Core.List.{[], _∷_};
 ghost use Prim.Native.Nat.{_+_, _*_, _<_, _≤_};
 ghost use lib.Dec.{leb};
-ghost use lib.ListN.{length};
-ghost use Rattle.format.specs.Texts.{bytesAt};
+ghost use lib.ListN.{length, drop};
+ghost use Rattle.format.specs.Texts.{bytesAt, run};
 ghost use Rattle.format.specs.Bytes.{alphanumeric};
 ghost use Rattle.format.specs.Limits.{maxText};
 ghost use Rattle.format.specs.CueText.{escaped, collapsed};
-ghost use Rattle.tokenizer.specs.Decoding.{added, decoded};
+ghost use Rattle.tokenizer.specs.Decoding.{decoded};
 ghost use Rattle.strings.specs.Stores.{Stores, separates, one};
-ghost use Rattle.strings.specs.Turns.{heldAfter, plainEnd, word};
+ghost use Rattle.strings.specs.Turns.{pieceEnd, escapes, word};
 
 // One byte.
 fn put(b: u8, room: &mut [u8], at: usize) -> usize
@@ -85,75 +85,63 @@ fn put_escaped(held: &[u8], room: &mut [u8], at: usize) -> usize
     put(b';', room, n)
 }
 
-// What a byte after held bytes adds.
-fn put_added(held: &[u8], c: u8, room: &mut [u8], at: usize) -> usize
-    requires { ⌜ (length (now held) ≤ maxText) × (at ≤ 2 * maxText) ⌝ }
-    ensures { λ r. ⌜ Stores (added (now (held .entry)) c) at (now (room .entry)) r (now (room .exit)) ⌝ }
+// Where the letters and digits end that stand at `at`.
+fn name_end(s: &[u8], at: usize) -> usize
+    ensures { λ r. ⌜ r ≡ at + length (run alphanumeric (drop at (now (s .entry)))) ⌝ }
 {
-    if c == b'&' {
-        return put_part(held, room, at);
+    let mut i = at;
+    while i < s.len() {
+        if !is_alphanumeric(s[i]) {
+            return i;
+        }
+        i += 1;
     }
-    if held.len() == 0 {
-        return put(c, room, at);
-    }
-    if is_alphanumeric(c) {
-        return at;
-    }
-    if c == b';' {
-        return put_escaped(held, room, at);
-    }
-    let n = put_part(held, room, at);
-    put(c, room, n)
+    i
 }
 
-// Where the held bytes begin after the byte at `i`.
-fn held_after(held: usize, i: usize, c: u8) -> usize
-    requires { ⌜ i ≤ maxText ⌝ }
-    ensures { λ r. ⌜ r ≡ heldAfter held i c ⌝ }
+// Where the piece ends that stands at `i`: an ampersand with its name, or what stands before the next ampersand.
+fn piece_end(s: &[u8], i: usize) -> usize
+    requires { ⌜ i < length (now s) ⌝ }
+    ensures { λ r. ⌜ r ≡ pieceEnd (now (s .entry)) i ⌝ }
 {
-    if c == b'&' {
-        return i;
-    }
-    if i <= held {
-        return i + 1;
-    }
-    if is_alphanumeric(c) {
-        return held;
-    }
-    i + 1
-}
-
-// Where the bytes end that stand for themselves from `i` on.
-fn plain_end(s: &[u8], held: usize, i: usize) -> usize
-    ensures { λ r. ⌜ r ≡ plainEnd (now (s .entry)) held i ⌝ }
-{
-    if held < i {
-        return i;
+    if s[i] == b'&' {
+        return name_end(s, i + 1);
     }
     past(s, i, ByteKind::Until(b'&'))
 }
 
-// A text with its escapes decoded. Bytes that stand for themselves are put together, others one by one.
+// Is the piece an escape: a semicolon follows the ampersand and its name.
+fn is_escape(s: &[u8], i: usize, end: usize) -> bool
+    requires { ⌜ i < length (now s) ⌝ }
+    ensures { λ r. ⌜ r ≡ escapes (now (s .entry)) i end ⌝ }
+{
+    if s[i] != b'&' {
+        return false;
+    }
+    if s.len() <= end {
+        return false;
+    }
+    s[end] == b';'
+}
+
+// A text with its escapes decoded, piece by piece.
 fn decode(s: &[u8], room: &mut [u8], at: usize) -> usize
     requires { ⌜ (length (now s) ≤ maxText) × (at ≤ maxText) ⌝ }
     ensures { λ r. ⌜ Stores (decoded (now (s .entry))) at (now (room .entry)) r (now (room .exit)) ⌝ }
 {
-    let mut held = 0;
     let mut i = 0;
     let mut n = at;
     while i < s.len() {
-        let to = plain_end(s, held, i);
-        if i < to {
-            n = put_part(&s[i..to], room, n);
-            held = to;
-            i = to;
+        let end = piece_end(s, i);
+        if is_escape(s, i, end) {
+            n = put_escaped(&s[i..end], room, n);
+            i = end + 1;
         } else {
-            n = put_added(&s[held..i], s[i], room, n);
-            held = held_after(held, i, s[i]);
-            i += 1;
+            n = put_part(&s[i..end], room, n);
+            i = end;
         }
     }
-    put_part(&s[held..], room, n)
+    n
 }
 
 // A part of a text with its escapes decoded.

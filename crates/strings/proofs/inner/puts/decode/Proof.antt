@@ -1,145 +1,127 @@
 -- `strings::inner::puts::decode` meets its contract.
 use native.Mathlib.Omega.{arith}
-use Prim.Native.Nat.{_-_}
-use mathlib.Core.Path.{_∙_}
+use Prim.Native.Nat.{_-_, _≤_, _<_}
+use mathlib.Core.Path.{sym, _∙_}
 use lib.ListN.{length}
 use Rattle.format.specs.Texts.{bytesAt}
-use Rattle.strings.proofs.StoreLaws.{stores-length, storing-length}
-use Rattle.strings.proofs.TextLaws.{part-length, PlainAt, plain-at}
-use Rattle.strings.proofs.TurnLaws.{Decoding, decoding-starts, decoding-again, decoding-plain, decoding-ends}
+use Rattle.strings.proofs.StoreLaws.{storing-length}
+use Rattle.strings.proofs.TextLaws.{piece-within, part-length}
+use Rattle.strings.proofs.TurnLaws.{Decoding, decoding-starts, escape-put, plain-put, decoding-ends}
 use borrow.Author.Needs.{needs}
 use Rattle.strings.proofs.inner.puts.decode.Statement.{statement}
 use Rattle.strings.proofs.inner.puts.decode.Tie as tie
 
 abbrev Inv-loop : tie.InvT-loop
-Inv-loop s room₀ at held₀ i₀ n₀ room held i n = Decoding s at room₀ room held i n
+Inv-loop s room₀ at i₀ n₀ room i n = Decoding s at room₀ room i n
 
 abbrev μ-loop : tie.MeasureT-loop
-μ-loop s room₀ at held₀ i₀ n₀ room held i n = length s - i
+μ-loop s room₀ at i₀ n₀ room i n = length s - i
 
 loop-holds : tie.Need-loop-holds Inv-loop μ-loop
 loop-holds c = let args = c .before .before .args in decoding-starts (args .s .now) (args .at) (args .room .now)
 
--- the bytes that stand for themselves lie within the text
-plain : (c : tie.After-plain-end Inv-loop μ-loop) → let at = c .before .before in
-    PlainAt (at .before .before .before .args .s .now) (at .loop .held) (at .loop .i) (c .plain-end .result)
-plain c =
-    let at = c .before .before in
-    plain-at (at .before .before .before .args .s .now) (at .loop .held) (at .loop .i) (c .plain-end .result)
-    (at .loop .inv .beyond) (at .loop .inv .within) (c .plain-end .ensures)
-
-plain-end-requires : tie.Need-plain-end-requires Inv-loop μ-loop
-plain-end-requires c κs = search needs
-
-sub-put-part : tie.Need-sub-put-part Inv-loop μ-loop
-sub-put-part c = omega arith
-
-part-put-part-start : tie.Need-part-put-part-start Inv-loop μ-loop
-part-put-part-start c = omega arith
-
-part-put-part-end : tie.Need-part-put-part-end Inv-loop μ-loop
-part-put-part-end c = omega (arith, plain (c .before))
-
-put-part-requires : tie.Need-put-part-requires Inv-loop μ-loop
-unfolding bytesAt
-put-part-requires c κs =
-    let found = c .before .before .before in
+-- the piece lies within the text
+within :
+    (c : tie.After-is-escape Inv-loop μ-loop) → let found = c .before in let at = found .before .before in
+    (at .loop .i < found .piece-end .result) × (found .piece-end .result ≤ length (at .before .before .before .args .s .now))
+within c =
+    let found = c .before in
     let at = found .before .before in
+    piece-within (at .before .before .before .args .s .now) (at .loop .i) (found .piece-end .result)
+    (found .before .loop-test .taken) (found .piece-end .ensures)
+
+piece-end-requires : tie.Need-piece-end-requires Inv-loop μ-loop
+piece-end-requires c κs = search needs
+
+is-escape-requires : tie.Need-is-escape-requires Inv-loop μ-loop
+is-escape-requires c κs = search needs
+
+sub-put-escaped : tie.Need-sub-put-escaped Inv-loop μ-loop
+sub-put-escaped c = let found = within (c .before) in omega arith
+
+part-put-escaped-start : tie.Need-part-put-escaped-start Inv-loop μ-loop
+part-put-escaped-start c = let found = within (c .before) in omega arith
+
+part-put-escaped-end : tie.Need-part-put-escaped-end Inv-loop μ-loop
+part-put-escaped-end c = let found = within (c .before) in omega arith
+
+put-escaped-requires : tie.Need-put-escaped-requires Inv-loop μ-loop
+unfolding bytesAt
+put-escaped-requires c κs =
+    let asked = c .before .before .before in
+    let at = asked .before .before .before in
     let s = at .before .before .before .args .s .now in
-    let within = plain found in
-    (omega (arith, part-length s (at .loop .i) (found .plain-end .result) (within .from) (within .inside)), omega arith)
+    let found = within asked in
+    let size = part-length s (at .loop .i) (asked .before .piece-end .result) (omega arith) (found .1) in
+    (omega arith, omega arith)
+
+add-i : tie.Need-add-i Inv-loop μ-loop
+add-i c = let found = within (c .before .before .before .before .before .before) in omega arith
 
 loop-less : tie.Need-loop-less Inv-loop μ-loop
-loop-less c = let within = plain (c .before .before .before .before .before .before) in omega arith
+loop-less c = let found = within (c .before .before .before .before .before .before) in omega arith
 
 loop-again : tie.Need-loop-again Inv-loop μ-loop
 unfolding bytesAt
 loop-again c =
     let put = c .before .before in
     let test = put .before .before .before in
-    let found = test .before in
+    let asked = test .before in
+    let found = asked .before in
     let at = found .before .before in
     let args = at .before .before .before .args in
-    decoding-plain (args .s .now) (args .at) (args .room .now) (at .loop .room) (at .loop .held) (at .loop .i) (at .loop .n) (at .loop .inv)
-    (found .plain-end .ensures)
-    (test .if1 .taken)
-    (put .put-part .ensures)
+    escape-put (args .s .now) (args .at) (args .room .now) (at .loop .room) (at .loop .i) (at .loop .n) (at .loop .inv)
+    (found .before .loop-test .taken)
+    (found .piece-end .ensures)
+    (sym (asked .is-escape .ensures) ∙ test .if1 .taken)
+    (put .put-escaped .ensures)
 
-sub-put-added : tie.Need-sub-put-added Inv-loop μ-loop
-sub-put-added c = omega arith
+sub-put-part : tie.Need-sub-put-part Inv-loop μ-loop
+sub-put-part c = let found = within (c .before) in omega arith
 
-part-put-added-start : tie.Need-part-put-added-start Inv-loop μ-loop
-part-put-added-start c = omega arith
+part-put-part-start : tie.Need-part-put-part-start Inv-loop μ-loop
+part-put-part-start c = let found = within (c .before) in omega arith
 
-part-put-added-end : tie.Need-part-put-added-end Inv-loop μ-loop
-part-put-added-end c = omega arith
+part-put-part-end : tie.Need-part-put-part-end Inv-loop μ-loop
+part-put-part-end c = let found = within (c .before) in omega arith
 
-shared-slice-read-put-added : tie.Need-shared-slice-read-put-added Inv-loop μ-loop
-shared-slice-read-put-added c = omega arith
-
-put-added-requires : tie.Need-put-added-requires Inv-loop μ-loop
+put-part-requires : tie.Need-put-part-requires Inv-loop μ-loop
 unfolding bytesAt
-put-added-requires c κs =
-    let at = c .before .before .before .before .before .before in
+put-part-requires c κs =
+    let asked = c .before .before .before in
+    let at = asked .before .before .before in
     let s = at .before .before .before .args .s .now in
-    (omega (arith, part-length s (at .loop .held) (at .loop .i) (at .loop .inv .beyond) (at .loop .inv .within)), omega arith)
-
-shared-slice-read-held-after : tie.Need-shared-slice-read-held-after Inv-loop μ-loop
-shared-slice-read-held-after c = omega arith
-
-held-after-requires : tie.Need-held-after-requires Inv-loop μ-loop
-held-after-requires c κs = omega arith
-
-add-i : tie.Need-add-i Inv-loop μ-loop
-add-i c = omega arith
+    let found = within asked in
+    let size = part-length s (at .loop .i) (asked .before .piece-end .result) (omega arith) (found .1) in
+    (omega arith, omega arith)
 
 loop-less-2 : tie.Need-loop-less-2 Inv-loop μ-loop
-loop-less-2 c = omega arith
+loop-less-2 c = let found = within (c .before .before .before .before .before .before) in omega arith
 
 loop-again-2 : tie.Need-loop-again-2 Inv-loop μ-loop
 unfolding bytesAt
 loop-again-2 c =
-    let put = c .before .before .before .before in
-    let turn = put .before .before .before .before .before .before in
-    let at = turn .before in
+    let put = c .before .before in
+    let test = put .before .before .before in
+    let asked = test .before in
+    let found = asked .before in
+    let at = found .before .before in
     let args = at .before .before .before .args in
-    rw (c .held-after .ensures)
-    (decoding-again (args .s .now) (args .at) (args .room .now) (at .loop .room) (at .loop .held) (at .loop .i) (at .loop .n) (at .loop .inv)
-    (turn .loop-test .taken)
-    (put .put-added .ensures))
-
-sub-put-part-2 : tie.Need-sub-put-part-2 Inv-loop μ-loop
-sub-put-part-2 c = omega arith
-
-part-put-part-start-2 : tie.Need-part-put-part-start-2 Inv-loop μ-loop
-part-put-part-start-2 c = omega arith
-
-part-put-part-end-2 : tie.Need-part-put-part-end-2 Inv-loop μ-loop
-part-put-part-end-2 c = omega arith
-
-put-part-requires-2 : tie.Need-put-part-requires-2 Inv-loop μ-loop
-unfolding bytesAt
-put-part-requires-2 c κs =
-    let at = c .before .before .before in
-    let s = at .before .before .before .args .s .now in
-    (omega (arith, part-length s (at .loop .held) (length s) (omega arith) (omega arith)), omega arith)
+    plain-put (args .s .now) (args .at) (args .room .now) (at .loop .room) (at .loop .i) (at .loop .n) (at .loop .inv)
+    (found .before .loop-test .taken)
+    (found .piece-end .ensures)
+    (sym (asked .is-escape .ensures) ∙ test .if1 .left)
+    (put .put-part .ensures)
 
 same-length : tie.Need-same-length Inv-loop μ-loop
-same-length c =
-    let put = c .before .before in
-    let at = put .before .before .before .before in
-    stores-length (put .put-part2 .ensures) ∙ storing-length (at .loop .inv .storing)
+same-length c = storing-length (c .before .loop .inv .storing)
 
 returns : tie.Need-returns Inv-loop μ-loop
-unfolding bytesAt
 returns c =
-    let put = c .before .before in
-    let out = put .before .before .before in
-    let at = out .before in
+    let at = c .before in
     let args = at .before .before .before .args in
-    decoding-ends (args .s .now) (args .at) (args .room .now) (at .loop .room) (at .loop .held) (at .loop .i) (at .loop .n) (at .loop .inv)
-    (out .loop-test .left)
-    (put .put-part2 .ensures)
+    decoding-ends (args .s .now) (args .at) (args .room .now) (at .loop .room) (at .loop .i) (at .loop .n) (at .loop .inv)
+    (c .loop-test .left)
 
 pub decode-spec : {M : Type 1} → statement M
 decode-spec =
@@ -148,26 +130,20 @@ decode-spec =
     Inv-loop
     μ-loop
     loop-holds
-    plain-end-requires
+    piece-end-requires
+    is-escape-requires
+    sub-put-escaped
+    part-put-escaped-start
+    part-put-escaped-end
+    put-escaped-requires
+    add-i
+    loop-less
+    loop-again
     sub-put-part
     part-put-part-start
     part-put-part-end
     put-part-requires
-    loop-less
-    loop-again
-    sub-put-added
-    part-put-added-start
-    part-put-added-end
-    shared-slice-read-put-added
-    put-added-requires
-    shared-slice-read-held-after
-    held-after-requires
-    add-i
     loop-less-2
     loop-again-2
-    sub-put-part-2
-    part-put-part-start-2
-    part-put-part-end-2
-    put-part-requires-2
     same-length
     returns)
