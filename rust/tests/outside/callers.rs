@@ -114,10 +114,11 @@ fn on_a_stack_of(bytes: usize, call: impl FnOnce() + Send + 'static) {
     std::thread::Builder::new().stack_size(bytes).spawn(call).expect("a thread").join().expect("it answers");
 }
 
-/// A cue's text of up to 786,432 bytes is read on a stack of 256 KB, and the safe function takes a longer one there too.
+/// A cue's text of up to 786,432 bytes is read with 128 KB of stack, the rest being this thread's own, and the safe function takes a longer one
+/// there too.
 #[test]
 fn on_a_small_stack() {
-    on_a_stack_of(256 << 10, || {
+    on_a_stack_of(160 << 10, || {
         for length in [0, 41, 12_288, 12_289, LONG_TEXT] {
             let text = "<i>".repeat(length / 3) + &"x".repeat(length % 3);
             let (mut room, mut nodes) = (vec![0; length], vec![[0; 7]; length / 3 + 1]);
