@@ -1,2 +1,3 @@
 -- Laws that this crate's proofs cite.
 pub mod RowLaws
+pub mod AcceptLaws

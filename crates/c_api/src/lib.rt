@@ -11,17 +11,20 @@ use format::rows::RegionRow;
 use format::rows::StyleRow;
 use format::settings::Span;
 ghost use mathlib.Core.Path.{_≡_};
-ghost use lib.ListN.{length};
+ghost use Prim.Native.Nat.{ℕ};
+ghost use mathlib.Core.List.{[], _∷_};
+ghost use lib.ListN.{length, take};
 ghost use Rattle.format.specs.Plain.{plainText};
 ghost use Rattle.format.specs.Lists.{lists};
 ghost use Rattle.format.specs.Rows.{cueRows, regionRows, styleRows, cueEntry};
-ghost use Rattle.format.specs.Answers.{refusalNumber, returned, withValues};
+ghost use Rattle.format.specs.Answers.{accepted, refusalNumber, returned, withValues};
 ghost use Rattle.format.specs.Converting.{converting, convertedRoom, testing};
 ghost use Rattle.format.specs.Reading.{reading, readingRaw, fileReading, afterReading};
-ghost use Rattle.format.specs.Trees.{treeing, treeRoom, treeTable};
-ghost use Rattle.format.specs.Writing.{writing, writtenRoom};
+ghost use Rattle.format.specs.Trees.{treeing, treeRoom, treeTable, TreeStands};
+ghost use Rattle.format.specs.Contents.{contentsOfRows};
+ghost use Rattle.format.specs.Writing.{writing, writtenRoom, ReadBack};
 ghost use Rattle.format.specs.Rewriting.{lengths, readingIn, rewriting, rewrittenRoom};
-ghost use Rattle.format.specs.Replacing.{replacing, replacedRoom};
+ghost use Rattle.format.specs.Replacing.{replacing, replacedRoom, Replaced};
 ghost use Rattle.format.specs.Parts.{partAnswerIs, asking};
 ghost use Rattle.c_api.specs.Lent.{lentWords, placeTold, entryAt};
 
@@ -95,6 +98,7 @@ pub extern "C" fn spatz_tree(
     ensures room { λ _. ⌜ now (room .exit) ≡ treeRoom (now (text .entry)) (now (room .entry)) (length (now (nodes .entry))) ⌝ }
     ensures nodes { λ _. ⌜ now (nodes .exit) ≡ treeTable (now (text .entry)) (length (now (room .entry))) (now (nodes .entry)) ⌝ }
     ensures values { λ _. ⌜ now (values .exit) ≡ withValues 0 (returned (treeing (now (text .entry)) (length (now (room .entry))) (length (now (nodes .entry))))) (now (values .entry)) ⌝ }
+    ensures stands { λ _. ⌜ ((count used : ℕ) → treeing (now (text .entry)) (length (now (room .entry))) (length (now (nodes .entry))) ≡ accepted (count ∷ used ∷ []) → TreeStands (now (text .entry)) (take used (now (room .exit))) (take count (now (nodes .exit)))) ⌝ }
 {
     answers::tree(markup::tree(text, room, nodes), values)
 }
@@ -112,6 +116,7 @@ pub extern "C" fn spatz_write(
     ensures number { λ r. ⌜ r ≡ refusalNumber (writing (now (text .entry)) (now (styles .entry)) (now (regions .entry)) (now (cues .entry)) (length (now (out .entry)))) ⌝ }
     ensures out { λ _. ⌜ now (out .exit) ≡ writtenRoom (now (text .entry)) (now (styles .entry)) (now (regions .entry)) (now (cues .entry)) (now (out .entry)) ⌝ }
     ensures values { λ _. ⌜ now (values .exit) ≡ withValues 0 (returned (writing (now (text .entry)) (now (styles .entry)) (now (regions .entry)) (now (cues .entry)) (length (now (out .entry))))) (now (values .entry)) ⌝ }
+    ensures back { λ _. ⌜ ((n : ℕ) → writing (now (text .entry)) (now (styles .entry)) (now (regions .entry)) (now (cues .entry)) (length (now (out .entry))) ≡ accepted (n ∷ []) → ReadBack (contentsOfRows (now (text .entry)) (now (styles .entry)) (now (regions .entry)) (now (cues .entry))) (take n (now (out .exit)))) ⌝ }
 {
     answers::writing(writer::write(text, styles, regions, cues, out), values)
 }
@@ -186,6 +191,7 @@ pub extern "C" fn spatz_replace(
     ensures scratch { λ _. ⌜ now (scratch .exit) ≡ convertedRoom (now (raw .entry)) (now (scratch .entry)) ⌝ }
     ensures out { λ _. ⌜ now (out .exit) ≡ replacedRoom (now (raw .entry)) number (now (text .entry)) (lentWords (now (row .entry))) (length (now (scratch .entry))) (now (out .entry)) ⌝ }
     ensures values { λ _. ⌜ now (values .exit) ≡ withValues 0 (returned (replacing (now (raw .entry)) number (now (text .entry)) (lentWords (now (row .entry))) (length (now (scratch .entry))) (length (now (out .entry))))) (now (values .entry)) ⌝ }
+    ensures replaced { λ _. ⌜ ((n : ℕ) → replacing (now (raw .entry)) number (now (text .entry)) (lentWords (now (row .entry))) (length (now (scratch .entry))) (length (now (out .entry))) ≡ accepted (n ∷ []) → Replaced (now (raw .entry)) number (now (text .entry)) (lentWords (now (row .entry))) (take n (now (out .exit)))) ⌝ }
 {
     let lent = lent_row(row);
     answers::replacing(

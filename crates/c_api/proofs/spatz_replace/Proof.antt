@@ -1,4 +1,5 @@
 -- `c_api::spatz_replace` meets its contract.
+use Rattle.c_api.proofs.AcceptLaws.{replacing-accepted}
 use borrow.Author.Needs.{needs}
 use Rattle.c_api.proofs.spatz_replace.Statement.{statement}
 use Rattle.c_api.proofs.spatz_replace.Tie as tie
@@ -24,7 +25,7 @@ returns c =
     let lent = called .before .before .before in
     let told = rw (lent .lent-row .ensures) at (called .replace-cue .ensures) in
     let said = c .replacing .ensures in
-    rw (← (told .0)) (said .0, (told .1 .0, (told .1 .1 .0, said .1)))
+    rw (← (told .0)) (said .0, (told .1 .0, (told .1 .1 .0, (said .1, λ n e. told .1 .1 .1 n (replacing-accepted (called .replace-cue .result) n e)))))
 
 pub spatz-replace-spec : {M : Type 1} → statement M
 spatz-replace-spec =

@@ -1,4 +1,5 @@
 -- `c_api::spatz_write` meets its contract.
+use Rattle.c_api.proofs.AcceptLaws.{writing-accepted}
 use borrow.Author.Needs.{needs}
 use Rattle.c_api.proofs.spatz_write.Statement.{statement}
 use Rattle.c_api.proofs.spatz_write.Tie as tie
@@ -14,9 +15,10 @@ same-length c = search needs
 
 returns : tie.Need-returns
 returns c =
-    let told = c .before .before .before .before .write .ensures in
+    let wrote = c .before .before .before .before in
+    let told = wrote .write .ensures in
     let said = c .writing .ensures in
-    rw (← (told .0)) (said .0, (told .1 .0, said .1))
+    rw (← (told .0)) (said .0, (told .1 .0, (said .1, λ n e. told .1 .1 n (writing-accepted (wrote .write .result) n e))))
 
 pub spatz-write-spec : {M : Type 1} → statement M
 spatz-write-spec =
