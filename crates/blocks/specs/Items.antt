@@ -67,6 +67,14 @@ meaningAt seen s from st =
     (cond (eqb (st .head .first) (st .to)) nothing
     (definitionWith seen (part s from (st .head .first) .bytes) (afterLine s (st .head .first) (st .to))))
 
+-- a line that is no word which opens a block without a timing line
+abbrev pub NoWord : List ℕ → Type 0
+NoWord line = (isWord (ascii "STYLE") line ≡ false) × (isWord (ascii "REGION") line ≡ false)
+
+-- whether a cue has succeeded or not, the block gives nothing
+abbrev pub GivesNothing : List ℕ → ℕ → Stop → Type 0
+GivesNothing s from st = (seen : Bool) → meaningAt seen s from st ≡ nothing
+
 -- a block of the text that begins at a place, and those after it
 pub record BlockAt (s : List ℕ) (from : ℕ) (st : Stop) : Type 0 where
   pub lines : List Line

@@ -10,13 +10,15 @@ use timing::timing_line::LineKind;
 use timing::timing_line::TimingLine;
 use values::bytes::ByteKind;
 ghost use mathlib.Core.Path.{_≡_};
+ghost use mathlib.Core.Bool.{true};
+ghost use mathlib.Core.Option.{none};
 ghost use Prim.Native.Nat.{_+_, _≤_, _<_};
 ghost use lib.ListN.{length};
 ghost use Rattle.format.specs.Lists.{isWord};
 ghost use Rattle.format.specs.TimingLines.{timingLine};
 ghost use Rattle.values.specs.Tokens.{partOf};
 ghost use Rattle.timing.specs.TimingLines.{timingLineIs, lineKind};
-ghost use Rattle.blocks.specs.Items.{part, afterSpan, timedIs, regionItem, definitionIs, meaningAt, itemIs, kindIs, timedKind};
+ghost use Rattle.blocks.specs.Items.{part, afterSpan, timedIs, regionItem, definitionIs, meaningAt, itemIs, kindIs, timedKind, NoWord, GivesNothing};
 
 // The lines after one that ends at `end`, up to the block's end.
 fn after_line(end: usize, to: usize) -> Span
@@ -93,6 +95,53 @@ fn definition(s: &[u8], from: usize, first: usize, to: usize, seen: bool) -> Ite
     Item::Nothing
 }
 
+// Does no timing line stand from one place up to another, as its first byte tells: neither a time begins with it nor whitespace before one.
+fn no_time(s: &[u8], from: usize, to: usize) -> bool
+    requires { ⌜ (from ≤ to) × (to ≤ length (now s)) ⌝ }
+    ensures { λ r. ⌜ (r ≡ true → timingLine (part (now (s .entry)) from to) ≡ none) ⌝ }
+{
+    if from == to {
+        return true;
+    }
+    let b = s[from];
+    if values::bytes::is_digit(b) {
+        return false;
+    }
+    !values::bytes::is_white(b)
+}
+
+// Is the first line neither STYLE nor REGION, as its first byte tells.
+fn no_word(s: &[u8], from: usize, first: usize) -> bool
+    requires { ⌜ (from < first) × (first ≤ length (now s)) ⌝ }
+    ensures { λ r. ⌜ (r ≡ true → NoWord (part (now (s .entry)) from first .bytes)) ⌝ }
+{
+    let b = s[from];
+    if b == b'S' {
+        return false;
+    }
+    b != b'R'
+}
+
+// Does the block that begins at `from` give nothing, as one byte tells. Where it tells nothing, the block has to be read.
+pub fn gives_nothing(s: &[u8], from: usize, stop: Stop) -> bool
+    requires { ⌜ (from < stop .head .first) × (stop .head .first ≤ stop .head .end) × (stop .head .end ≤ stop .to) × (stop .to ≤ length (now s)) ⌝ }
+    ensures { λ r. ⌜ (r ≡ true → GivesNothing (now (s .entry)) from stop) ⌝ }
+{
+    let head = stop.head;
+    let first = head.first;
+    let end = head.end;
+    if !head.timed {
+        if first == stop.to {
+            return true;
+        }
+        return no_word(s, from, first);
+    }
+    if first == end {
+        return no_time(s, from, end);
+    }
+    no_time(s, first + 1, end)
+}
+
 // What the block gives that begins at `from`, `seen` telling whether a cue has succeeded before it.
 pub fn item_at(s: &[u8], from: usize, stop: Stop, seen: bool) -> Item
     requires { ⌜ (from < stop .head .first) × (stop .head .first ≤ stop .head .end) × (stop .head .end ≤ stop .to) × (stop .to ≤ length (now s)) ⌝ }
@@ -131,6 +180,9 @@ pub fn kind_at(s: &[u8], from: usize, stop: Stop, seen: bool) -> ItemKind
     requires { ⌜ (from < stop .head .first) × (stop .head .first ≤ stop .head .end) × (stop .head .end ≤ stop .to) × (stop .to ≤ length (now s)) ⌝ }
     ensures { λ r. ⌜ r ≡ kindIs (itemIs (meaningAt seen (now (s .entry)) from stop)) ⌝ }
 {
+    if gives_nothing(s, from, stop) {
+        return ItemKind::Nothing;
+    }
     let head = stop.head;
     let first = head.first;
     let end = head.end;

@@ -72,6 +72,9 @@ fn put(
     ensures regions { λ _. ⌜ now (regions .exit) ≡ regionsWith (itemIs (meaningAt (ltb 0 (n .cues)) (now (text .entry)) from stop)) n (now (regions .entry)) ⌝ }
     ensures styles { λ _. ⌜ now (styles .exit) ≡ stylesWith (itemIs (meaningAt (ltb 0 (n .cues)) (now (text .entry)) from stop)) n (now (styles .entry)) ⌝ }
 {
+    if blocks::inner::gives_nothing(text, from, stop) {
+        return ItemKind::Nothing;
+    }
     match blocks::inner::item_at(text, from, stop, 0 < n.cues) {
         Item::Nothing => ItemKind::Nothing,
         Item::Over => ItemKind::Over,

@@ -13,11 +13,19 @@ use borrow.Author.Needs.{needs}
 use Rattle.blocks.proofs.inner.kind_at.Statement.{statement}
 use Rattle.blocks.proofs.inner.kind_at.Tie as tie
 
+gives-nothing-requires : tie.Need-gives-nothing-requires
+gives-nothing-requires c κs = search needs
+
 returns : tie.Need-returns
-unfolding meaningAt
 returns c =
-    let a = c .before .before .before .before .before .args in
-    rw (not-true (a .stop .head .timed) (c .before .if1 .taken), eq-eqb (a .stop .head .first) (a .stop .to) (c .if2 .taken))
+    let a = c .before .before .before .args in
+    rw (c .before .gives-nothing .ensures (c .if1 .taken) (a .seen))
+
+returns-2 : tie.Need-returns-2
+unfolding meaningAt
+returns-2 c =
+    let a = c .before .before .before .before .before .before .before .args in
+    rw (not-true (a .stop .head .timed) (c .before .if2 .taken), eq-eqb (a .stop .head .first) (a .stop .to) (c .if3 .taken))
 
 definition-requires : tie.Need-definition-requires
 definition-requires c κs = search needs
@@ -25,27 +33,27 @@ definition-requires c κs = search needs
 kind-requires : tie.Need-kind-requires
 kind-requires c κs = search needs
 
-returns-2 : tie.Need-returns-2
+returns-3 : tie.Need-returns-3
 unfolding meaningAt
-returns-2 c =
+returns-3 c =
     let made = c .before in
     let out = made .before .before in
-    let a = out .before .before .before .before .args in
+    let a = out .before .before .before .before .before .before .args in
     c .kind .ensures
     ∙ rw (
       made .definition .ensures,
-      not-true (a .stop .head .timed) (out .if1 .taken),
-      ne-eqb (a .stop .head .first) (a .stop .to) (made .before .if2 .left),
+      not-true (a .stop .head .timed) (out .if2 .taken),
+      ne-eqb (a .stop .head .first) (a .stop .to) (made .before .if3 .left),
     )
 
 timed-kind-requires : tie.Need-timed-kind-requires
 timed-kind-requires c κs = search needs
 
-returns-3 : tie.Need-returns-3
+returns-4 : tie.Need-returns-4
 unfolding meaningAt
-returns-3 c =
+returns-4 c =
     let out = c .before .before in
-    let a = out .before .before .before .before .args in
+    let a = out .before .before .before .before .before .before .args in
     let s = a .s .now in
     let head = a .stop .head in
     let line = timingLine (part s (a .from) (head .end)) in
@@ -54,8 +62,8 @@ returns-3 c =
     c .timed-kind .ensures
     ∙ rw (
       part-of s (a .from) (head .end) (omega arith) (omega arith),
-      not-false (head .timed) (out .if1 .left),
-      eq-eqb (head .first) (head .end) (c .before .if3 .taken),
+      not-false (head .timed) (out .if2 .left),
+      eq-eqb (head .first) (head .end) (c .before .if4 .taken),
     )
     (sym (kind-timed (spanIs id) (spanIs text) (timingLineIs line)) ∙ ap kindIs (timed-is id text line))
 
@@ -65,22 +73,22 @@ add-timed-kind c = search needs
 timed-kind-requires-2 : tie.Need-timed-kind-requires-2
 timed-kind-requires-2 c κs = search needs
 
-returns-4 : tie.Need-returns-4
+returns-5 : tie.Need-returns-5
 unfolding meaningAt
-returns-4 c =
+returns-5 c =
     let other = c .before in
     let out = other .before in
-    let a = out .before .before .before .before .args in
+    let a = out .before .before .before .before .before .before .args in
     let s = a .s .now in
     let head = a .stop .head in
-    let apart = other .if3 .left in
+    let apart = other .if4 .left in
     let line = timingLine (part s (head .first + 1) (head .end)) in
     let id = part s (a .from) (head .first) in
     let text = afterLine s (head .end) (a .stop .to) in
     c .timed-kind2 .ensures
     ∙ rw (
       part-of s (head .first + 1) (head .end) (omega (arith, apart)) (omega arith),
-      not-false (head .timed) (out .if1 .left),
+      not-false (head .timed) (out .if2 .left),
       ne-eqb (head .first) (head .end) apart,
     )
     (sym (kind-timed (spanIs id) (spanIs text) (timingLineIs line)) ∙ ap kindIs (timed-is id text line))
@@ -89,12 +97,14 @@ pub kind-at-spec : {M : Type 1} → statement M
 kind-at-spec =
     tie.close
     (tie.spec
+    gives-nothing-requires
     returns
+    returns-2
     definition-requires
     kind-requires
-    returns-2
-    timed-kind-requires
     returns-3
+    timed-kind-requires
+    returns-4
     add-timed-kind
     timed-kind-requires-2
-    returns-4)
+    returns-5)

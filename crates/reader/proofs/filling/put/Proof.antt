@@ -1,6 +1,7 @@
 -- `reader::filling::put` meets its contract.
 use mathlib.Core.Path.{_≡_, refl, sym, _∙_}
 use Prim.Native.Nat.{_≤_, _<_}
+use lib.Dec.{ltb}
 use lib.ListN.{length}
 use borrow.Author.Needs.{needs}
 use Rattle.reader.proofs.filling.put.Statement.{statement}
@@ -9,14 +10,22 @@ use Rattle.reader.proofs.filling.put.Tie as tie
 -- there is room for the item
 cue-room :
     (c : tie.After-cue)
-    → let a = c .before .before .before .before .before .args in (a .n .cues < length (a .cues .now)) × (a .n .regions ≤ length (a .regions .now))
-cue-room c = rw (sym (c .before .before .item-at .ensures) ∙ c .cue .given .1) at (c .before .before .before .before .before .pre .1)
+    → let a = c .before .before .before .before .before .before .before .args in (a .n .cues < length (a .cues .now)) × (a .n .regions ≤ length (a .regions .now))
+cue-room c = rw (sym (c .before .before .item-at .ensures) ∙ c .cue .given .1) at (c .before .before .before .before .before .before .before .pre .1)
 
-style-room : (c : tie.After-part) → let a = c .before .before .before .before .before .args in a .n .styles < length (a .styles .now)
-style-room c = rw (sym (c .before .before .item-at .ensures) ∙ c .part .given .1) at (c .before .before .before .before .before .pre .1)
+style-room : (c : tie.After-part) → let a = c .before .before .before .before .before .before .before .args in a .n .styles < length (a .styles .now)
+style-room c = rw (sym (c .before .before .item-at .ensures) ∙ c .part .given .1) at (c .before .before .before .before .before .before .before .pre .1)
 
-region-room : (c : tie.After-region) → let a = c .before .before .before .before .before .args in a .n .regions < length (a .regions .now)
-region-room c = rw (sym (c .before .before .item-at .ensures) ∙ c .region .given .1) at (c .before .before .before .before .before .pre .1)
+region-room : (c : tie.After-region) → let a = c .before .before .before .before .before .before .before .args in a .n .regions < length (a .regions .now)
+region-room c = rw (sym (c .before .before .item-at .ensures) ∙ c .region .given .1) at (c .before .before .before .before .before .before .before .pre .1)
+
+gives-nothing-requires : tie.Need-gives-nothing-requires
+gives-nothing-requires c κs = search needs
+
+returns : tie.Need-returns
+returns c =
+    let a = c .before .before .before .args in
+    rw (c .before .gives-nothing .ensures (c .if1 .taken) (ltb 0 (a .n .cues))) (refl, (refl, (refl, refl)))
 
 item-at-requires : tie.Need-item-at-requires
 item-at-requires c κs = search needs
@@ -36,11 +45,11 @@ entry-requires c κs = cue-room (c .before .before) .1
 cue-row-requires : tie.Need-cue-row-requires
 cue-row-requires c κs = search needs
 
-mul-t21 : tie.Need-mul-t21
-mul-t21 c =
+mul-t22 : tie.Need-mul-t22
+mul-t22 c =
     let cue = c .before .before .before .before in
     let room = cue-room cue .0 in
-    let good = cue .before .before .before .before .before .good in
+    let good = cue .before .before .before .before .before .before .before .good in
     search (needs, room, good)
 
 slice-set-from-cues : tie.Need-slice-set-from-cues
@@ -52,8 +61,8 @@ enum-known-part c = search needs
 style-row-requires : tie.Need-style-row-requires
 style-row-requires c κs = search needs
 
-mul-t24 : tie.Need-mul-t24
-mul-t24 c = let room = style-room (c .before .before) in search (needs, room)
+mul-t25 : tie.Need-mul-t25
+mul-t25 c = let room = style-room (c .before .before) in search (needs, room)
 
 slice-set-from-styles : tie.Need-slice-set-from-styles
 slice-set-from-styles c = style-room (c .before .before)
@@ -64,17 +73,21 @@ enum-known-region c = search needs
 region-row-requires : tie.Need-region-row-requires
 region-row-requires c κs = search needs
 
-mul-t27 : tie.Need-mul-t27
-mul-t27 c = let room = region-room (c .before .before) in search (needs, room)
+mul-t28 : tie.Need-mul-t28
+mul-t28 c =
+    let region = c .before .before in
+    let room = region-room region in
+    let good = region .before .before .before .before .before .before .before .good in
+    search (needs, room, good)
 
 slice-set-from-regions : tie.Need-slice-set-from-regions
 slice-set-from-regions c = region-room (c .before .before)
 
-returns : tie.Need-returns
-returns c = rw (sym (c .before .before .item-at .ensures) ∙ c .enum-told .given .1) (refl, (refl, (refl, refl)))
-
 returns-2 : tie.Need-returns-2
-returns-2 c = rw (sym (c .before .before .item-at .ensures) ∙ c .enum-told2 .given .1) (refl, (refl, (refl, refl)))
+returns-2 c = rw (sym (c .before .before .item-at .ensures) ∙ c .enum-told .given .1) (refl, (refl, (refl, refl)))
+
+returns-3 : tie.Need-returns-3
+returns-3 c = rw (sym (c .before .before .item-at .ensures) ∙ c .enum-told2 .given .1) (refl, (refl, (refl, refl)))
 
 same-length : tie.Need-same-length
 same-length c = search needs
@@ -82,26 +95,26 @@ same-length c = search needs
 same-length-2 : tie.Need-same-length-2
 same-length-2 c = search needs
 
-returns-3 : tie.Need-returns-3
-returns-3 c =
+returns-4 : tie.Need-returns-4
+returns-4 c =
     let made = c .before .before .before .before in
     rw (sym (made .before .before .item-at .ensures) ∙ made .cue .given .1, c .cue-row .ensures, c .before .entry .ensures) (refl, (refl, (refl, refl)))
 
 same-length-3 : tie.Need-same-length-3
 same-length-3 c = search needs
 
-returns-4 : tie.Need-returns-4
-returns-4 c =
+returns-5 : tie.Need-returns-5
+returns-5 c =
     let made = c .before .before in
     rw (sym (made .before .before .item-at .ensures) ∙ made .part .given .1, c .style-row .ensures) (refl, (refl, (refl, refl)))
 
 same-length-4 : tie.Need-same-length-4
 same-length-4 c = search needs
 
-returns-5 : tie.Need-returns-5
-returns-5 c =
+returns-6 : tie.Need-returns-6
+returns-6 c =
     let made = c .before .before in
     rw (sym (made .before .before .item-at .ensures) ∙ made .region .given .1, c .region-row .ensures) (refl, (refl, (refl, refl)))
 
 pub put-spec : {M : Type 1} → statement M
-put-spec = tie.close (tie.spec item-at-requires enum-told enum-told-2 enum-known-cue entry-requires cue-row-requires mul-t21 slice-set-from-cues enum-known-part style-row-requires mul-t24 slice-set-from-styles enum-known-region region-row-requires mul-t27 slice-set-from-regions returns returns-2 same-length same-length-2 returns-3 same-length-3 returns-4 same-length-4 returns-5)
+put-spec = tie.close (tie.spec gives-nothing-requires returns item-at-requires enum-told enum-told-2 enum-known-cue entry-requires cue-row-requires mul-t22 slice-set-from-cues enum-known-part style-row-requires mul-t25 slice-set-from-styles enum-known-region region-row-requires mul-t28 slice-set-from-regions returns-2 returns-3 same-length same-length-2 returns-4 same-length-3 returns-5 same-length-4 returns-6)

@@ -1,0 +1,57 @@
+-- What the first byte of a line tells: that it is no timing line, and neither STYLE nor REGION. Such a block gives nothing.
+use Prim.Native.Nat.{ℕ, suc, _+_, _-_, _≤_, _<_}
+use mathlib.Core.Path.{_≡_, refl, ap, _∙_}
+use mathlib.Core.Bool.{Bool, true, false}
+use mathlib.Core.List.{List, [], _∷_}
+use mathlib.Core.Option.{none}
+use native.Mathlib.Omega.{arith}
+use lib.Dec.{eqb}
+use lib.ListN.{length, getD}
+use lib.Seq.{drop-cons}
+use borrow.Author.Tests.{ne-eqb}
+use Rattle.format.specs.Bytes.{digit, white}
+use Rattle.format.specs.Texts.{Part, run, pastRun, isEmpty, startsWith}
+use Rattle.format.specs.Times.{failed, onGot, timestamp}
+use Rattle.format.specs.TimingLines.{timings, timingOf, timingLine}
+use Rattle.format.specs.Lists.{nothing, isWord}
+use Rattle.laws.proofs.Tests.{by-test}
+use Rattle.blocks.specs.Items.{part, definitionWith, NoWord}
+
+-- a part that is not empty begins with the byte at its place
+part-first : (s : List ℕ) (a b : ℕ) → a < b → b ≤ length s → part s a b .bytes ≡ getD s a 0 ∷ part s (a + 1) b .bytes
+part-first s a b k l =
+    let n : b - a ≡ suc (b - (a + 1)) = omega arith in
+    let m : a + 1 ≡ suc a = omega arith in
+    rw (n, drop-cons s a 0 (omega arith), m)
+
+no-times : (b : ℕ) (x : List ℕ) → digit b ≡ false → white b ≡ false → timings (b ∷ x) ≡ failed
+unfolding timings timestamp onGot pastRun run isEmpty
+no-times b x d w = rw (w, d)
+
+-- the part of no bytes, and one whose first byte begins neither a time nor whitespace, are no timing lines
+pub empty-line : (s : List ℕ) (a b : ℕ) → a ≡ b → timingLine (part s a b) ≡ none
+unfolding timingLine timingOf timings timestamp onGot pastRun run isEmpty
+empty-line s a b e = let n : b - a ≡ 0 = omega arith in rw n
+
+pub other-line :
+    (s : List ℕ) (a b : ℕ)
+    → a < b
+    → b ≤ length s
+    → digit (getD s a 0) ≡ false
+    → white (getD s a 0) ≡ false
+    → timingLine (part s a b) ≡ none
+unfolding timingLine timingOf
+other-line s a b k l d w = ap (timingOf (part s a b)) (ap timings (part-first s a b k l) ∙ no-times (getD s a 0) (part s (a + 1) b .bytes) d w)
+
+pub other-word :
+    (s : List ℕ) (a b : ℕ)
+    → a < b
+    → b ≤ length s
+    → (getD s a 0 ≡ 0x53 → ⊥)
+    → (getD s a 0 ≡ 0x52 → ⊥)
+    → NoWord (part s a b .bytes)
+unfolding isWord startsWith
+other-word s a b k l x y = rw (part-first s a b k l, ne-eqb (getD s a 0) 0x53 x, ne-eqb (getD s a 0) 0x52 y) (refl, refl)
+
+pub no-definition : (seen : Bool) (line : List ℕ) (text : Part) → NoWord line → definitionWith seen line text ≡ nothing
+no-definition seen line text h = by-test seen (λ y. rw y) (λ n. rw (n, h .0, h .1))
