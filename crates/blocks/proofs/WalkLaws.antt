@@ -20,7 +20,7 @@ use Rattle.blocks.specs.declared.collecting.Why.the-variants as Why
 use Rattle.blocks.specs.declared.Next.{Next}
 use Rattle.blocks.specs.declared.Next.the-variants as Next
 use Rattle.blocks.specs.Collecting.{linesFrom, headAfter, collectFrom, opening, inLine, lineAt, firstEnd, headerEnd, pastEmpty, nextIs, isEnd, WhyIs}
-use Rattle.blocks.specs.Items.{meaningAt, NextAt, NextIs, itemIs, isOver}
+use Rattle.blocks.specs.Items.{meaningAt, NextAt, NextIs, itemIs, kindIs, kindOver}
 use Rattle.blocks.proofs.LineLaws.{lineFrom, lines-next, lines-end, collect-empty, collect-arrow, collect-line}
 use Rattle.blocks.proofs.BlockLaws.{fresh-empty, fresh-after, block-at, header-at, blocks-after, no-blocks, line-inside}
 use Rattle.blocks.proofs.ItemLaws.{no-bytes, some-bytes}
@@ -128,7 +128,7 @@ moves s at from st n =
     let b = n .block in
     omega (arith, n .skipped, b .starts, b .first-end, b .end-to, b .to-at)
 
-pub over-is : (i : Item) → isOver (itemIs i) ≡ itemOver i
+pub over-is : (i : Item) → kindOver (kindIs (itemIs i)) ≡ itemOver i
 unfolding itemOver
 over-is nothing = refl
 over-is (cue c over) = by-test over (λ y. rw y) (λ n. rw n)

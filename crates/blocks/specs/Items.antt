@@ -124,9 +124,6 @@ kindOver ItemKind.Cue = false
 kindOver ItemKind.Style = false
 kindOver ItemKind.Region = false
 
-abbrev pub isOver : Made.Item → Bool
-isOver i = kindOver (kindIs i)
-
 abbrev pub afterSpan : ℕ → ℕ → Span
 afterSpan e to = cond (eqb e to) noSpan (spanTo (e + 1) to)
 

@@ -3,7 +3,7 @@ use format::regions::Region;
 use format::settings::Settings;
 use format::settings::Span;
 ghost use mathlib.Core.Path.{_≡_};
-ghost use Rattle.blocks.specs.Items.{isOver, kindIs, kindOver};
+ghost use Rattle.blocks.specs.Items.{kindIs, kindOver};
 
 pub struct CueRead {
     pub id: Span,
@@ -46,6 +46,7 @@ pub fn kind(item: Item) -> ItemKind
     }
 }
 
+// Has a cue or a region a number above its limit.
 pub fn kind_over(kind: ItemKind) -> bool
     ensures { λ r. ⌜ r ≡ kindOver kind ⌝ }
 {
@@ -56,11 +57,4 @@ pub fn kind_over(kind: ItemKind) -> bool
         ItemKind::Style => false,
         ItemKind::Region => false,
     }
-}
-
-// Has a cue or a region a number above its limit.
-pub fn is_over(item: Item) -> bool
-    ensures { λ r. ⌜ r ≡ isOver item ⌝ }
-{
-    kind_over(kind(item))
 }

@@ -15,6 +15,9 @@ use Rattle.format.specs.declared.settings.Span.{Span}
 use Rattle.values.specs.Tokens.{partOf}
 use Rattle.blocks.specs.declared.items.Item.{Item}
 use Rattle.blocks.specs.declared.items.Item.the-variants as Item
+use Rattle.blocks.specs.declared.items.ItemKind.{ItemKind}
+use Rattle.blocks.specs.declared.items.ItemKind.the-variants as ItemKind
+use Rattle.blocks.specs.Items.{kindIs}
 use Rattle.places.specs.Places.{OwnLines}
 use Rattle.places.specs.declared.inner.finding.Found.{Found}
 use Rattle.places.specs.declared.inner.finding.Surveyed.{Surveyed}
@@ -24,15 +27,26 @@ use Rattle.places.specs.declared.inner.finding.Surveyed.the-variants as 
 abbrev pub hasName : List ℕ → Span → List ℕ → Bool
 hasName s id name = same (partOf s (id .from) (id .to) .bytes) name
 
+-- is the item a region of this name
+abbrev pub itemNamed : List ℕ → List ℕ → Item → Bool
+itemNamed s name Item.Nothing = false
+itemNamed s name Item.Over = false
+itemNamed s name (Item.Cue c) = false
+itemNamed s name (Item.Style t) = false
+itemNamed s name (Item.Region r) = hasName s (r .id) name
+
+-- one block more, which gives an item of this kind, has these lines, and is a region of the name asked for or not
+abbrev pub withKind : ItemKind → Bool → ℕ → Span → Found → Found
+withKind ItemKind.Nothing named number lines f = f
+withKind ItemKind.Over named number lines f = f
+withKind ItemKind.Cue named number lines f =
+    record { cues = f .cues + 1; own = cond (eqb (f .cues) number) lines (f .own); named = f .named }
+withKind ItemKind.Style named number lines f = f
+withKind ItemKind.Region named number lines f = record { cues = f .cues; own = f .own; named = f .named || named }
+
 -- one block more, which gives this item and has these lines
 abbrev pub withItem : List ℕ → ℕ → List ℕ → Item → Span → Found → Found
-withItem s number name Item.Nothing lines f = f
-withItem s number name Item.Over lines f = f
-withItem s number name (Item.Cue c) lines f =
-    record { cues = f .cues + 1; own = cond (eqb (f .cues) number) lines (f .own); named = f .named }
-withItem s number name (Item.Style t) lines f = f
-withItem s number name (Item.Region r) lines f =
-    record { cues = f .cues; own = f .own; named = f .named || hasName s (r .id) name }
+withItem s number name i lines f = withKind (kindIs i) (itemNamed s name i) number lines f
 
 -- what was found in the whole of a readable text
 pub record FoundIn (s : List ℕ) (number : ℕ) (name : List ℕ) (f : Found) : Type 0 where

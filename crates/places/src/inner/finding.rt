@@ -1,15 +1,18 @@
 // One walk over the blocks of a plain text: how many cues it has, where the lines of one cue stand, and whether a region has a name.
 use blocks::Next;
+use blocks::collecting::Stop;
 use blocks::collecting::is_last;
 use blocks::items::Item;
+use blocks::items::ItemKind;
 use format::settings::Span;
 use values::bytes::same_bytes;
 ghost use mathlib.Core.Path.{_≡_};
 ghost use mathlib.Core.Bool.{cond};
-ghost use Prim.Native.Nat.{_<_};
-ghost use lib.Dec.{eqb};
+ghost use Prim.Native.Nat.{_≤_, _<_};
+ghost use lib.Dec.{eqb, ltb};
 ghost use lib.ListN.{length};
-ghost use Rattle.places.specs.Finding.{hasName, withItem, SurveyedIs};
+ghost use Rattle.blocks.specs.Items.{meaningAt, itemIs, kindIs};
+ghost use Rattle.places.specs.Finding.{hasName, itemNamed, withItem, SurveyedIs};
 
 // What the blocks have that were passed over.
 pub struct Found {
@@ -48,30 +51,56 @@ fn own_lines(found: Found, lines: Span, number: usize) -> Span
     found.own
 }
 
-// One block more, which gives this item and has these lines.
-fn with_item(found: Found, s: &[u8], item: Item, lines: Span, number: usize, name: &[u8]) -> Found
-    requires { ⌜ found .cues < length (now s) ⌝ }
-    ensures { λ r. ⌜ r ≡ withItem (now (s .entry)) number (now (name .entry)) item lines found ⌝ }
+// Is the item a region of this name.
+fn is_region_named(s: &[u8], item: Item, name: &[u8]) -> bool
+    ensures { λ r. ⌜ r ≡ itemNamed (now (s .entry)) (now (name .entry)) item ⌝ }
 {
     match item {
-        Item::Nothing => found,
-        Item::Over => found,
-        Item::Cue(_) => {
-            let own = own_lines(found, lines, number);
+        Item::Nothing => false,
+        Item::Over => false,
+        Item::Cue(_) => false,
+        Item::Style(_) => false,
+        Item::Region(region) => {
+            let id = region.id;
+            is_named(s, id, name)
+        }
+    }
+}
+
+// One block more, which begins at `from` and gives an item of this kind. The item itself is made for a region alone, whose name is asked for.
+fn with_block(
+    found: Found,
+    s: &[u8],
+    kind: ItemKind,
+    from: usize,
+    stop: Stop,
+    number: usize,
+    name: &[u8],
+) -> Found
+    requires { ⌜ found .cues < length (now s) ⌝ }
+    requires { ⌜ (from < stop .head .first) × (stop .head .first ≤ stop .head .end) × (stop .head .end ≤ stop .to) × (stop .to ≤ length (now s)) ⌝ }
+    requires { ⌜ kind ≡ kindIs (itemIs (meaningAt (ltb 0 (found .cues)) (now s) from stop)) ⌝ }
+    ensures { λ r. ⌜ r ≡ withItem (now (s .entry)) number (now (name .entry)) (itemIs (meaningAt (ltb 0 (found .cues)) (now (s .entry)) from stop)) (record { from = from; to = stop .to }) found ⌝ }
+{
+    match kind {
+        ItemKind::Nothing => found,
+        ItemKind::Over => found,
+        ItemKind::Cue => {
+            let own = own_lines(found, Span { from, to: stop.to }, number);
             Found {
                 cues: found.cues + 1,
                 own,
                 named: found.named,
             }
         }
-        Item::Style(_) => found,
-        Item::Region(region) => {
+        ItemKind::Style => found,
+        ItemKind::Region => {
+            let item = blocks::inner::item_at(s, from, stop, 0 < found.cues);
             let own = found.own;
-            let id = region.id;
             Found {
                 cues: found.cues,
                 own,
-                named: found.named || is_named(s, id, name),
+                named: found.named || is_region_named(s, item, name),
             }
         }
     }
@@ -95,11 +124,11 @@ pub fn survey(s: &[u8], number: usize, name: &[u8]) -> Surveyed
         let Next::Block { from, stop } = next else {
             return Surveyed::Readable(found);
         };
-        let item = blocks::inner::item_at(s, from, stop, 0 < found.cues);
-        if blocks::items::is_over(item) {
+        let kind = blocks::inner::kind_at(s, from, stop, 0 < found.cues);
+        if blocks::items::kind_over(kind) {
             return Surveyed::OverLimit;
         }
-        found = with_item(found, s, item, Span { from, to: stop.to }, number, name);
+        found = with_block(found, s, kind, from, stop, number, name);
         let why = stop.why;
         if is_last(why) {
             return Surveyed::Readable(found);

@@ -1,5 +1,5 @@
 -- `places::inner::finding::survey` meets its contract: what has been found, with what the blocks from `at` on give, is what the text has.
-use Prim.Native.Nat.{ℕ, _-_}
+use Prim.Native.Nat.{ℕ, _-_, _≤_, _<_}
 use mathlib.Core.Path.{_≡_, sym, ap, _∙_}
 use mathlib.Core.Bool.{true}
 use mathlib.Core.List.{List, []}
@@ -11,7 +11,7 @@ use Rattle.format.specs.Blocks.{hasSignature}
 use Rattle.format.specs.Lists.{Item, itemOver}
 use Rattle.blocks.specs.declared.collecting.Stop.{Stop}
 use Rattle.blocks.specs.Collecting.{headerEnd}
-use Rattle.blocks.specs.Items.{meaningAt, NextAt, isOver}
+use Rattle.blocks.specs.Items.{meaningAt, NextAt, kindOver}
 use Rattle.blocks.proofs.WalkLaws.{fresh, after-header, next-none, next-found, last, moves, over-is}
 use Rattle.places.proofs.FindLaws.{Walking, walk-start, walk-end, walk-over, walk-next}
 use borrow.Author.Needs.{needs}
@@ -94,18 +94,22 @@ module _ (c : tie.After-next Inv-loop μ-loop) where
   abbrev item : Item
   item = meaningAt (ltb 0 (at .loop .found .cues)) s from stop
 
-item-at-requires : tie.Need-item-at-requires Inv-loop μ-loop
-item-at-requires c κs =
-    let b = found (c .before .before) .block in
-    (b .starts, b .first-end, b .end-to, omega (arith, b .to-at, b .inside))
+  -- its places are those of a block that stands in the text
+  places-in : (from < stop .head .first) × (stop .head .first ≤ stop .head .end) × (stop .head .end ≤ stop .to) × (stop .to ≤ length s)
+  places-in =
+      let b = found .block in
+      (b .starts, b .first-end, b .end-to, omega (arith, b .to-at, b .inside))
 
-is-over-requires : tie.Need-is-over-requires Inv-loop μ-loop
-is-over-requires c κs = search needs
+kind-at-requires : tie.Need-kind-at-requires Inv-loop μ-loop
+kind-at-requires c κs = places-in (c .before .before)
 
-over : (c : tie.After-is-over Inv-loop μ-loop) → itemOver (item (c .before .before .before .before)) ≡ c .is-over .result
+kind-over-requires : tie.Need-kind-over-requires Inv-loop μ-loop
+kind-over-requires c κs = search needs
+
+over : (c : tie.After-kind-over Inv-loop μ-loop) → itemOver (item (c .before .before .before .before)) ≡ c .kind-over .result
 over c =
     let l = c .before .before .before .before in
-    sym (over-is (item l)) ∙ ap isOver (sym (c .before .item-at .ensures)) ∙ sym (c .is-over .ensures)
+    sym (over-is (item l)) ∙ ap kindOver (sym (c .before .kind-at .ensures)) ∙ sym (c .kind-over .ensures)
 
 returns-3 : tie.Need-returns-3 Inv-loop μ-loop
 returns-3 c =
@@ -115,22 +119,24 @@ returns-3 c =
       walk-over (s l) (number l) (name l) (own .at) (own .found) (own .inv) (from l) (stop l) (found l) (over (c .before) ∙ c .if2 .taken),
     )
 
-with-item-requires : tie.Need-with-item-requires Inv-loop μ-loop
-with-item-requires c κs =
+with-block-requires : tie.Need-with-block-requires Inv-loop μ-loop
+with-block-requires c κs =
     let l = c .before .before .before .before .before in
-    let own = at l .loop in
-    omega (arith, own .inv .few, moves (s l) (own .at) (from l) (stop l) (found l), found l .block .inside)
+    let own = at l .loop in (
+      omega (arith, own .inv .few, moves (s l) (own .at) (from l) (stop l) (found l), found l .block .inside),
+      (places-in l, c .before .before .kind-at .ensures),
+    )
 
 -- what is found with the item
 more :
-    (c : tie.After-with-item Inv-loop μ-loop)
+    (c : tie.After-with-block Inv-loop μ-loop)
     → let l = c .before .before .before .before .before .before in
-    Walking (s l) (number l) (name l) (stop l .at) (c .with-item .result)
+    Walking (s l) (number l) (name l) (stop l .at) (c .with-block .result)
 more c =
     let read = c .before .before in
     let l = read .before .before .before .before in
     let own = at l .loop in
-    rw (c .with-item .ensures, read .before .item-at .ensures)
+    rw (c .with-block .ensures)
     (walk-next (s l) (number l) (name l) (own .at) (own .found) (own .inv) (from l) (stop l) (found l) (over read ∙ c .before .if2 .left))
 
 is-last-requires : tie.Need-is-last-requires Inv-loop μ-loop
@@ -141,7 +147,7 @@ returns-4 c =
     let w = c .before .before in
     let l = w .before .before .before .before .before .before in
     let none = last (s l) (at l .loop .at) (from l) (stop l) (found l) (sym (c .before .is-last .ensures) ∙ c .if3 .taken) in
-    walk-end (s l) (number l) (name l) (stop l .at) (w .with-item .result) (more w) (signed (at l .before .before)) none
+    walk-end (s l) (number l) (name l) (stop l .at) (w .with-block .result) (more w) (signed (at l .before .before)) none
 
 loop-less : tie.Need-loop-less Inv-loop μ-loop
 loop-less c =
@@ -165,10 +171,10 @@ survey-spec =
     enum-known-next
     enum-told
     returns-2
-    item-at-requires
-    is-over-requires
+    kind-at-requires
+    kind-over-requires
     returns-3
-    with-item-requires
+    with-block-requires
     is-last-requires
     returns-4
     loop-less
