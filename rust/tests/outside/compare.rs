@@ -128,7 +128,7 @@ impl Case {
         self.check(&format!("{what}: scratch"), scratch.holds(&expected.scratch.unwrap_or_default()), raw);
     }
 
-    /// Text room and tables are scratch here: their guards alone are compared, by the output's.
+    /// Text room and tables hold what the steps before a refusal made.
     fn rewrite(&mut self, raw: &[u8], sizes: [usize; 5]) {
         let expected = papers::rewrite(raw, sizes[0], sizes[1], sizes[2], sizes[3], sizes[4]);
         let random = &mut self.random;

@@ -122,13 +122,15 @@ fn heading(title: &str, columns: &[&str]) {
     println!("|---|---:|{}", "---:|".repeat(columns.len()));
 }
 
-/// Seconds for replacing the cue of a number by one like it.
-fn replacing(raw: &[u8], number: usize) -> f64 {
+/// What replacing the cue of a number by one like it answers, and its seconds.
+fn replacing(raw: &[u8], number: usize) -> (u64, f64) {
     let text = b"Replaced.";
     let mut row = [0; 18];
     (row[2], row[3], row[5], row[14], row[15]) = (1000, 2000, text.len() as u64, 100_000_000, 1);
     let (mut scratch, mut out) = (vec![0; 3 * raw.len()], vec![0; raw.len() + 100]);
-    seconds(|| assert_eq!(lent::replace(raw, number, &row, text, &mut scratch, &mut out, &mut [0; 8]), 0))
+    let mut answer = 0;
+    let time = seconds(|| answer = lent::replace(raw, number, &row, text, &mut scratch, &mut out, &mut [0; 8]));
+    (answer, time)
 }
 
 fn episodes() {
@@ -171,7 +173,10 @@ fn episode(name: &str, raw: &[u8]) {
     let mut out = vec![0; MAX_FILE];
     let write = seconds(|| assert_eq!(lent::write(&file.text, &file.styles, &file.regions, &file.cues, &mut out, &mut [0; 8]), 0));
     let last = file.cues.len() - 1;
-    let replace = [0, last / 2, last].map(|number| replacing(raw, number));
+    let replace = [0, last / 2, last].map(|number| match replacing(raw, number) {
+        (0, time) => time,
+        (answer, _) => panic!("replacing cue {number} is refused by {answer}"),
+    });
     let mut nodes = vec![[0; 7]; 1000];
     let trees = seconds(|| {
         for cue in &file.cues {
@@ -185,16 +190,19 @@ fn episode(name: &str, raw: &[u8]) {
 }
 
 fn worst() {
-    heading("Worst cases of a file", &["convert", "read"]);
+    heading("Worst cases of a file", &["convert", "read", "in one call", "replace the first cue"]);
     for (name, raw) in samples::worst() {
         let scanned = scanning(&raw);
         let mut room = vec![0; 3 * raw.len()];
         let convert = seconds(|| assert_eq!(lent::convert(&raw, &mut room, &mut [0; 8]), 0));
         let mut file = Read::of(&raw);
-        let read = seconds(|| {
-            black_box(file.read());
+        let read = seconds(|| assert_eq!(file.read(), 0));
+        let one_call = seconds(|| {
+            assert_eq!(lent::read_file(&raw, &mut room, &mut file.cues, &mut file.regions, &mut file.styles, &mut [0; 8]), 0);
         });
-        row(name, raw.len(), scanned, &[convert, read]);
+        // A file without a cue is refused by 7, and one that would grow above the limit by 1, when all of it has been read.
+        let (_, replace) = replacing(&raw, 0);
+        row(name, raw.len(), scanned, &[convert, read, one_call, replace]);
     }
 }
 
