@@ -22,7 +22,7 @@ use Rattle.format.specs.Reading.{counts, reading, readingRaw, fileReading, afte
 use Rattle.format.specs.Contents.{storedContents}
 use Rattle.format.specs.Written.{written}
 use Rattle.format.specs.Writing.{fileOf}
-use Rattle.format.specs.Rewriting.{rewrittenFile}
+use Rattle.format.specs.Rewriting.{lengths, readingIn, rewrittenFile, rewriting, rewrittenRoom}
 use Rattle.reader.proofs.FileLaws.{counted}
 use Rattle.lookup.proofs.NameLaws.{take-min}
 
@@ -32,12 +32,20 @@ unfolding andThen ifAccepted
 not-read (accepted ws) n us vs e = let z : _≡_ {A = ℕ} 0 1 = cc e in absurd (omega arith)
 not-read (refused m ws) n us vs e = sym e
 
-pub file-refused :
+file-refused :
     (raw : List ℕ) (room cues regions styles : ℕ) {n : ℕ} {us : List ℕ}
     → refused n us ≡ fileReading raw room cues regions styles
     → readingRaw raw room cues regions styles ≡ refused n us
 unfolding fileReading
 file-refused raw room cues regions styles {n} {us} e = not-read (readingRaw raw room cues regions styles) n us _ e
+
+-- rewriting is then refused by the same number, and the output room is as it was
+pub rewriting-refused :
+    (raw text : List ℕ) (cues regions styles : List (List ℕ)) (out : List ℕ) {n : ℕ} {us : List ℕ}
+    → refused n us ≡ fileReading raw (length text) (length cues) (length regions) (length styles)
+    → (refused n us ≡ rewriting raw (lengths text cues regions styles out)) × (out ≡ rewrittenRoom raw (lengths text cues regions styles out) out)
+unfolding rewriting rewrittenRoom readingIn lengths andThen ifAccepted
+rewriting-refused raw text cues regions styles out e = rw (file-refused raw (length text) (length cues) (length regions) (length styles) e) (refl, refl)
 
 -- where both accept, both answers
 pub record Both (a b : Answer) (vs : List ℕ) : Type 0 where

@@ -1,14 +1,16 @@
 -- `rewriting::rewrite` meets its contract.
-use mathlib.Core.Path.{refl, sym}
+use Prim.Native.Nat.{ℕ}
+use mathlib.Core.Path.{_≡_, sym}
+use mathlib.Core.List.{List}
 use lib.ListN.{length}
 use lib.Seq.{length-take-le}
-use Rattle.format.specs.Answers.{ifAccepted, andThen}
-use Rattle.format.specs.Reading.{fileReadingIs}
+use Rattle.format.specs.Answers.{refused, ifAccepted, andThen}
+use Rattle.format.specs.Reading.{fileReadingIs, fileReading}
 use Rattle.format.specs.Writing.{writtenRoom}
 use Rattle.format.specs.Plain.{plainText}
 use Rattle.format.specs.Rewriting.{rewritingIs, lengths, readingIn, writingOf, rewriting, rewrittenRoom}
 use Rattle.laws.proofs.Answers.{Converts, converts}
-use Rattle.rewriting.proofs.RewriteLaws.{FileRead, file-read, file-refused, starts, file-is}
+use Rattle.rewriting.proofs.RewriteLaws.{FileRead, file-read, rewriting-refused, starts, file-is}
 use borrow.Author.Needs.{needs}
 use Rattle.rewriting.proofs.rewrite.Statement.{statement}
 use Rattle.rewriting.proofs.rewrite.Tie as tie
@@ -33,6 +35,17 @@ plain c =
     let read = c .before .before .before .before .before .before .before in
     let a = read .before .before .before .before .before .before .before .before .args in
     converts (a .raw .now) (a .text .now) (was-read c .converted) (read .read-file .ensures .1 .0)
+
+-- a file that was not read is not rewritten
+not-rewritten :
+    (read : tie.After-read-file) {n : ℕ} {us : List ℕ}
+    → let a = read .before .before .before .before .before .before .before .before .args in
+    let lent = lengths (a .text .now) (a .cues .now) (a .regions .now) (a .styles .now) (a .out .now) in
+    refused n us ≡ fileReading (a .raw .now) (length (a .text .now)) (length (a .cues .now)) (length (a .regions .now)) (length (a .styles .now))
+    → (refused n us ≡ rewriting (a .raw .now) lent) × (a .out .now ≡ rewrittenRoom (a .raw .now) lent (a .out .now))
+not-rewritten read e =
+    let a = read .before .before .before .before .before .before .before .before .args in
+    rewriting-refused (a .raw .now) (a .text .now) (a .cues .now) (a .regions .now) (a .styles .now) (a .out .now) e
 
 read-file-requires : tie.Need-read-file-requires
 read-file-requires c κs = search needs
@@ -107,15 +120,12 @@ same-length-9 : tie.Need-same-length-9
 same-length-9 c = search needs
 
 returns-2 : tie.Need-returns-2
-unfolding fileReadingIs rewriting rewrittenRoom readingIn lengths andThen ifAccepted rewritingIs
+unfolding fileReadingIs rewritingIs readingIn lengths
 returns-2 c =
     let read = c .before .before .before .before .before .before .before in
     let told = read .read-file .ensures in
-    let a = read .before .before .before .before .before .before .before .before .args in
-    let refusal =
-    file-refused (a .raw .now) (length (a .text .now)) (length (a .cues .now)) (length (a .regions .now)) (length (a .styles .now)) (rw (c .enum-told .given .1) at (told .0)) in
-    let made = rw refusal at (told .1) in
-    rw refusal (refl, (made .0, (made .1 .0, (made .1 .1 .0, (made .1 .1 .1, refl)))))
+    let refusal = not-rewritten read (rw (c .enum-told .given .1) at (told .0)) in
+    (refusal .0, (told .1 .0, (told .1 .1 .0, (told .1 .1 .1 .0, (told .1 .1 .1 .1, refusal .1)))))
 
 same-length-10 : tie.Need-same-length-10
 same-length-10 c = search needs
@@ -130,15 +140,12 @@ same-length-13 : tie.Need-same-length-13
 same-length-13 c = search needs
 
 returns-3 : tie.Need-returns-3
-unfolding fileReadingIs rewriting rewrittenRoom readingIn lengths andThen ifAccepted rewritingIs
+unfolding fileReadingIs rewritingIs readingIn lengths
 returns-3 c =
     let read = c .before .before .before .before .before .before .before .before in
     let told = read .read-file .ensures in
-    let a = read .before .before .before .before .before .before .before .before .args in
-    let refusal =
-    file-refused (a .raw .now) (length (a .text .now)) (length (a .cues .now)) (length (a .regions .now)) (length (a .styles .now)) (rw (c .before .n .given .1) at (told .0)) in
-    let made = rw refusal at (told .1) in
-    rw refusal (refl, (made .0, (made .1 .0, (made .1 .1 .0, (made .1 .1 .1, refl)))))
+    let refusal = not-rewritten read (rw (c .before .n .given .1) at (told .0)) in
+    (refusal .0, (told .1 .0, (told .1 .1 .0, (told .1 .1 .1 .0, (told .1 .1 .1 .1, refusal .1)))))
 
 same-length-14 : tie.Need-same-length-14
 same-length-14 c = search needs
@@ -153,15 +160,12 @@ same-length-17 : tie.Need-same-length-17
 same-length-17 c = search needs
 
 returns-4 : tie.Need-returns-4
-unfolding fileReadingIs rewriting rewrittenRoom readingIn lengths andThen ifAccepted rewritingIs
+unfolding fileReadingIs rewritingIs readingIn lengths
 returns-4 c =
     let read = c .before .before .before .before .before .before .before in
     let told = read .read-file .ensures in
-    let a = read .before .before .before .before .before .before .before .before .args in
-    let refusal =
-    file-refused (a .raw .now) (length (a .text .now)) (length (a .cues .now)) (length (a .regions .now)) (length (a .styles .now)) (rw (c .enum-told2 .given .1) at (told .0)) in
-    let made = rw refusal at (told .1) in
-    rw refusal (refl, (made .0, (made .1 .0, (made .1 .1 .0, (made .1 .1 .1, refl)))))
+    let refusal = not-rewritten read (rw (c .enum-told2 .given .1) at (told .0)) in
+    (refusal .0, (told .1 .0, (told .1 .1 .0, (told .1 .1 .1 .0, (told .1 .1 .1 .1, refusal .1)))))
 
 same-length-18 : tie.Need-same-length-18
 same-length-18 c = search needs
@@ -176,15 +180,12 @@ same-length-21 : tie.Need-same-length-21
 same-length-21 c = search needs
 
 returns-5 : tie.Need-returns-5
-unfolding fileReadingIs rewriting rewrittenRoom readingIn lengths andThen ifAccepted rewritingIs
+unfolding fileReadingIs rewritingIs readingIn lengths
 returns-5 c =
     let read = c .before .before .before .before .before .before .before in
     let told = read .read-file .ensures in
-    let a = read .before .before .before .before .before .before .before .before .args in
-    let refusal =
-    file-refused (a .raw .now) (length (a .text .now)) (length (a .cues .now)) (length (a .regions .now)) (length (a .styles .now)) (rw (c .enum-told3 .given .1) at (told .0)) in
-    let made = rw refusal at (told .1) in
-    rw refusal (refl, (made .0, (made .1 .0, (made .1 .1 .0, (made .1 .1 .1, refl)))))
+    let refusal = not-rewritten read (rw (c .enum-told3 .given .1) at (told .0)) in
+    (refusal .0, (told .1 .0, (told .1 .1 .0, (told .1 .1 .1 .0, (told .1 .1 .1 .1, refusal .1)))))
 
 same-length-22 : tie.Need-same-length-22
 same-length-22 c = search needs
@@ -199,15 +200,12 @@ same-length-25 : tie.Need-same-length-25
 same-length-25 c = search needs
 
 returns-6 : tie.Need-returns-6
-unfolding fileReadingIs rewriting rewrittenRoom readingIn lengths andThen ifAccepted rewritingIs
+unfolding fileReadingIs rewritingIs readingIn lengths
 returns-6 c =
     let read = c .before .before .before .before .before .before .before .before in
     let told = read .read-file .ensures in
-    let a = read .before .before .before .before .before .before .before .before .args in
-    let refusal =
-    file-refused (a .raw .now) (length (a .text .now)) (length (a .cues .now)) (length (a .regions .now)) (length (a .styles .now)) (rw (c .before .c2 .given .1) at (told .0)) in
-    let made = rw refusal at (told .1) in
-    rw refusal (refl, (made .0, (made .1 .0, (made .1 .1 .0, (made .1 .1 .1, refl)))))
+    let refusal = not-rewritten read (rw (c .before .c2 .given .1) at (told .0)) in
+    (refusal .0, (told .1 .0, (told .1 .1 .0, (told .1 .1 .1 .0, (told .1 .1 .1 .1, refusal .1)))))
 
 pub rewrite-spec : {M : Type 1} → statement M
 rewrite-spec =
