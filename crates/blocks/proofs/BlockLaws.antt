@@ -106,7 +106,7 @@ head-left h e arrow =
     (λ y. rw y (eqb-true (h .left) 0 y))
     (λ n. by-test arrow (λ y. rw (n, y)) (λ m. rw (n, m)))
 
-abbrev slice : List ℕ → ℕ → ℕ → List ℕ
+abbrev pub slice : List ℕ → ℕ → ℕ → List ℕ
 slice s from to = take (to - from) (drop from s)
 
 -- the line that begins at a place, and what stands after it
@@ -141,11 +141,15 @@ unfolding absent run
 run-whole [] = refl
 run-whole (b ∷ x) = by-test (eqb b lf) (λ y. rw y) (λ n. rw (n, n) (run-whole x))
 
+-- a part that is not empty begins with the byte at its place
+pub slice-first : (s : List ℕ) (a b : ℕ) → a < length s → a < b → slice s a b ≡ getD s a 0 ∷ slice s (a + 1) b
+slice-first s a b l k =
+    let n : b - a ≡ suc (b - (a + 1)) = omega arith in
+    let m : a + 1 ≡ suc a = omega arith in
+    rw (n, drop-cons s a 0 l, m)
+
 slice-lf : (s : List ℕ) (e to : ℕ) → getD s e 0 ≡ lf → e < length s → e < to → slice s e to ≡ lf ∷ slice s (e + 1) to
-slice-lf s e to c l k =
-    let n : to - e ≡ suc (to - (e + 1)) = omega arith in
-    let m : e + 1 ≡ suc e = omega arith in
-    rw (n, drop-cons s e 0 l, c, m)
+slice-lf s e to c l k = slice-first s e to l k ∙ ap (λ b. b ∷ slice s (e + 1) to) c
 
 slice-none : (s : List ℕ) (e : ℕ) → slice s e e ≡ []
 slice-none s e = let n : e - e ≡ 0 = omega arith in rw n

@@ -1,5 +1,5 @@
 -- What the first byte of a line tells: that it is no timing line, and neither STYLE nor REGION. Such a block gives nothing.
-use Prim.Native.Nat.{ℕ, suc, _+_, _-_, _≤_, _<_}
+use Prim.Native.Nat.{ℕ, _+_, _-_, _≤_, _<_}
 use mathlib.Core.Path.{_≡_, refl, ap, _∙_}
 use mathlib.Core.Bool.{Bool, true, false}
 use mathlib.Core.List.{List, [], _∷_}
@@ -7,7 +7,6 @@ use mathlib.Core.Option.{none}
 use native.Mathlib.Omega.{arith}
 use lib.Dec.{eqb}
 use lib.ListN.{length, getD}
-use lib.Seq.{drop-cons}
 use borrow.Author.Tests.{ne-eqb}
 use Rattle.format.specs.Bytes.{digit, white}
 use Rattle.format.specs.Texts.{Part, run, pastRun, isEmpty, startsWith}
@@ -16,13 +15,7 @@ use Rattle.format.specs.TimingLines.{timings, timingOf, timingLine}
 use Rattle.format.specs.Lists.{nothing, isWord}
 use Rattle.laws.proofs.Tests.{by-test}
 use Rattle.blocks.specs.Items.{part, definitionWith, NoWord}
-
--- a part that is not empty begins with the byte at its place
-part-first : (s : List ℕ) (a b : ℕ) → a < b → b ≤ length s → part s a b .bytes ≡ getD s a 0 ∷ part s (a + 1) b .bytes
-part-first s a b k l =
-    let n : b - a ≡ suc (b - (a + 1)) = omega arith in
-    let m : a + 1 ≡ suc a = omega arith in
-    rw (n, drop-cons s a 0 (omega arith), m)
+use Rattle.blocks.proofs.BlockLaws.{slice-first}
 
 no-times : (b : ℕ) (x : List ℕ) → digit b ≡ false → white b ≡ false → timings (b ∷ x) ≡ failed
 unfolding timings timestamp onGot pastRun run isEmpty
@@ -41,7 +34,7 @@ pub other-line :
     → white (getD s a 0) ≡ false
     → timingLine (part s a b) ≡ none
 unfolding timingLine timingOf
-other-line s a b k l d w = ap (timingOf (part s a b)) (ap timings (part-first s a b k l) ∙ no-times (getD s a 0) (part s (a + 1) b .bytes) d w)
+other-line s a b k l d w = ap (timingOf (part s a b)) (ap timings (slice-first s a b (omega arith) k) ∙ no-times (getD s a 0) (part s (a + 1) b .bytes) d w)
 
 pub other-word :
     (s : List ℕ) (a b : ℕ)
@@ -51,7 +44,7 @@ pub other-word :
     → (getD s a 0 ≡ 0x52 → ⊥)
     → NoWord (part s a b .bytes)
 unfolding isWord startsWith
-other-word s a b k l x y = rw (part-first s a b k l, ne-eqb (getD s a 0) 0x53 x, ne-eqb (getD s a 0) 0x52 y) (refl, refl)
+other-word s a b k l x y = rw (slice-first s a b (omega arith) k, ne-eqb (getD s a 0) 0x53 x, ne-eqb (getD s a 0) 0x52 y) (refl, refl)
 
 pub no-definition : (seen : Bool) (line : List ℕ) (text : Part) → NoWord line → definitionWith seen line text ≡ nothing
 no-definition seen line text h = by-test seen (λ y. rw y) (λ n. rw (n, h .0, h .1))

@@ -20,7 +20,7 @@ use Rattle.blocks.specs.declared.collecting.Why.the-variants as Why
 use Rattle.blocks.specs.declared.Next.{Next}
 use Rattle.blocks.specs.declared.Next.the-variants as Next
 use Rattle.blocks.specs.Collecting.{linesFrom, headAfter, collectFrom, opening, inLine, lineAt, firstEnd, headerEnd, pastEmpty, nextIs, isEnd, WhyIs}
-use Rattle.blocks.specs.Items.{meaningAt, NextAt, NextIs, itemIs, kindIs, kindOver}
+use Rattle.blocks.specs.Items.{meaningAt, PlacesIn, NextAt, NextIs, itemIs, kindIs, kindOver}
 use Rattle.blocks.proofs.LineLaws.{lineFrom, lines-next, lines-end, collect-empty, collect-arrow, collect-line}
 use Rattle.blocks.proofs.BlockLaws.{fresh-empty, fresh-after, block-at, header-at, blocks-after, no-blocks, line-inside}
 use Rattle.blocks.proofs.ItemLaws.{no-bytes, some-bytes}
@@ -127,6 +127,12 @@ pub moves : (s : List ℕ) (at from : ℕ) (st : Stop) → NextAt s at from st �
 moves s at from st n =
     let b = n .block in
     omega (arith, n .skipped, b .starts, b .first-end, b .end-to, b .to-at)
+
+-- what the functions ask for that tell what a block gives
+pub places-in : (s : List ℕ) (at from : ℕ) (st : Stop) → NextAt s at from st → PlacesIn s from st
+places-in s at from st n =
+    let b = n .block in
+    (b .starts, b .first-end, b .end-to, omega (arith, b .to-at, b .inside))
 
 pub over-is : (i : Item) → kindOver (kindIs (itemIs i)) ≡ itemOver i
 unfolding itemOver

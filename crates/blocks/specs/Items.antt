@@ -67,6 +67,10 @@ meaningAt seen s from st =
     (cond (eqb (st .head .first) (st .to)) nothing
     (definitionWith seen (part s from (st .head .first) .bytes) (afterLine s (st .head .first) (st .to))))
 
+-- the places of a block that begins at one and was collected stand in the text, in their order
+abbrev pub PlacesIn : List ℕ → ℕ → Stop → Type 0
+PlacesIn s from st = (from < st .head .first) × (st .head .first ≤ st .head .end) × (st .head .end ≤ st .to) × (st .to ≤ length s)
+
 -- a line that is no word which opens a block without a timing line
 abbrev pub NoWord : List ℕ → Type 0
 NoWord line = (isWord (ascii "STYLE") line ≡ false) × (isWord (ascii "REGION") line ≡ false)

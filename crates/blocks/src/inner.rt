@@ -18,7 +18,7 @@ ghost use Rattle.format.specs.Lists.{isWord};
 ghost use Rattle.format.specs.TimingLines.{timingLine};
 ghost use Rattle.values.specs.Tokens.{partOf};
 ghost use Rattle.timing.specs.TimingLines.{timingLineIs, lineKind};
-ghost use Rattle.blocks.specs.Items.{part, afterSpan, timedIs, regionItem, definitionIs, meaningAt, itemIs, kindIs, timedKind, NoWord, GivesNothing};
+ghost use Rattle.blocks.specs.Items.{part, afterSpan, timedIs, regionItem, definitionIs, meaningAt, itemIs, kindIs, timedKind, NoWord, GivesNothing, PlacesIn};
 
 // The lines after one that ends at `end`, up to the block's end.
 fn after_line(end: usize, to: usize) -> Span
@@ -124,7 +124,7 @@ fn no_word(s: &[u8], from: usize, first: usize) -> bool
 
 // Does the block that begins at `from` give nothing, as one byte tells. Where it tells nothing, the block has to be read.
 pub fn gives_nothing(s: &[u8], from: usize, stop: Stop) -> bool
-    requires { ⌜ (from < stop .head .first) × (stop .head .first ≤ stop .head .end) × (stop .head .end ≤ stop .to) × (stop .to ≤ length (now s)) ⌝ }
+    requires { ⌜ PlacesIn (now s) from stop ⌝ }
     ensures { λ r. ⌜ (r ≡ true → GivesNothing (now (s .entry)) from stop) ⌝ }
 {
     let head = stop.head;
@@ -144,7 +144,7 @@ pub fn gives_nothing(s: &[u8], from: usize, stop: Stop) -> bool
 
 // What the block gives that begins at `from`, `seen` telling whether a cue has succeeded before it.
 pub fn item_at(s: &[u8], from: usize, stop: Stop, seen: bool) -> Item
-    requires { ⌜ (from < stop .head .first) × (stop .head .first ≤ stop .head .end) × (stop .head .end ≤ stop .to) × (stop .to ≤ length (now s)) ⌝ }
+    requires { ⌜ PlacesIn (now s) from stop ⌝ }
     ensures { λ r. ⌜ r ≡ itemIs (meaningAt seen (now (s .entry)) from stop) ⌝ }
 {
     let head = stop.head;
@@ -177,7 +177,7 @@ fn timed_kind(s: &[u8], from: usize, to: usize) -> ItemKind
 
 // What the block gives that begins at `from`, without what that says: no cue is made.
 pub fn kind_at(s: &[u8], from: usize, stop: Stop, seen: bool) -> ItemKind
-    requires { ⌜ (from < stop .head .first) × (stop .head .first ≤ stop .head .end) × (stop .head .end ≤ stop .to) × (stop .to ≤ length (now s)) ⌝ }
+    requires { ⌜ PlacesIn (now s) from stop ⌝ }
     ensures { λ r. ⌜ r ≡ kindIs (itemIs (meaningAt seen (now (s .entry)) from stop)) ⌝ }
 {
     if gives_nothing(s, from, stop) {

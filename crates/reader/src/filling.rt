@@ -14,7 +14,7 @@ use format::rows::StyleRow;
 use format::settings::Span;
 ghost use mathlib.Core.Path.{_≡_};
 ghost use mathlib.Core.Bool.{false};
-ghost use Prim.Native.Nat.{_≤_, _<_};
+ghost use Prim.Native.Nat.{_≤_};
 ghost use lib.Dec.{ltb};
 ghost use lib.ListN.{length, take};
 ghost use Rattle.format.specs.Limits.{maxText};
@@ -23,7 +23,7 @@ ghost use Rattle.format.specs.Lists.{items, lists, anyOver};
 ghost use Rattle.format.specs.Rows.{cueRows, regionRows, styleRows};
 ghost use Rattle.format.specs.Answers.{placed};
 ghost use Rattle.blocks.specs.Collecting.{linesFrom};
-ghost use Rattle.blocks.specs.Items.{meaningAt, itemIs, kindIs};
+ghost use Rattle.blocks.specs.Items.{meaningAt, PlacesIn, itemIs, kindIs};
 ghost use Rattle.reader.specs.Filling.{regionAt, entryOf, cuesWith, regionsWith, stylesWith, RoomFor};
 
 // The region of this name among the first `count` rows.
@@ -65,7 +65,7 @@ fn put(
     regions: &mut [RegionRow],
     styles: &mut [StyleRow],
 ) -> ItemKind
-    requires { ⌜ (from < stop .head .first) × (stop .head .first ≤ stop .head .end) × (stop .head .end ≤ stop .to) × (stop .to ≤ length (now text)) ⌝ }
+    requires { ⌜ PlacesIn (now text) from stop ⌝ }
     requires { ⌜ RoomFor (itemIs (meaningAt (ltb 0 (n .cues)) (now text) from stop)) n (length (now cues)) (length (now regions)) (length (now styles)) ⌝ }
     ensures kind { λ r. ⌜ r ≡ kindIs (itemIs (meaningAt (ltb 0 (n .cues)) (now (text .entry)) from stop)) ⌝ }
     ensures cues { λ _. ⌜ now (cues .exit) ≡ cuesWith (now (text .entry)) (itemIs (meaningAt (ltb 0 (n .cues)) (now (text .entry)) from stop)) n (now (regions .entry)) (now (cues .entry)) ⌝ }

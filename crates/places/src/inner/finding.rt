@@ -8,10 +8,10 @@ use format::settings::Span;
 use values::bytes::same_bytes;
 ghost use mathlib.Core.Path.{_≡_};
 ghost use mathlib.Core.Bool.{cond};
-ghost use Prim.Native.Nat.{_≤_, _<_};
+ghost use Prim.Native.Nat.{_<_};
 ghost use lib.Dec.{eqb, ltb};
 ghost use lib.ListN.{length};
-ghost use Rattle.blocks.specs.Items.{meaningAt, itemIs, kindIs};
+ghost use Rattle.blocks.specs.Items.{meaningAt, PlacesIn, itemIs, kindIs};
 ghost use Rattle.places.specs.Finding.{hasName, itemNamed, withItem, SurveyedIs};
 
 // What the blocks have that were passed over.
@@ -78,7 +78,7 @@ fn with_block(
     name: &[u8],
 ) -> Found
     requires { ⌜ found .cues < length (now s) ⌝ }
-    requires { ⌜ (from < stop .head .first) × (stop .head .first ≤ stop .head .end) × (stop .head .end ≤ stop .to) × (stop .to ≤ length (now s)) ⌝ }
+    requires { ⌜ PlacesIn (now s) from stop ⌝ }
     requires { ⌜ kind ≡ kindIs (itemIs (meaningAt (ltb 0 (found .cues)) (now s) from stop)) ⌝ }
     ensures { λ r. ⌜ r ≡ withItem (now (s .entry)) number (now (name .entry)) (itemIs (meaningAt (ltb 0 (found .cues)) (now (s .entry)) from stop)) (record { from = from; to = stop .to }) found ⌝ }
 {

@@ -12,7 +12,7 @@ use Rattle.blocks.specs.declared.collecting.Stop.{Stop}
 use Rattle.reader.specs.declared.counting.Tally.{Tally}
 use Rattle.reader.specs.declared.counting.Tally.the-variants as Tally
 use Rattle.reader.specs.Counting.{withKind, withItem, tallyWith, tallyIs}
-use Rattle.blocks.proofs.WalkLaws.{fresh, next-none, next-found, last, items-next, moves, over-is}
+use Rattle.blocks.proofs.WalkLaws.{fresh, next-none, next-found, last, items-next, moves, places-in, over-is}
 use Rattle.reader.proofs.CountLaws.{tally-end, tally-over, tally-next, seen-next, with-most}
 use borrow.Author.Needs.{needs}
 use Rattle.reader.proofs.counting.count_items.Statement.{statement}
@@ -81,9 +81,7 @@ module _ (c : tie.After-next Inv-loop μ-loop) where
       ∙ at .loop .inv .4
 
 kind-at-requires : tie.Need-kind-at-requires Inv-loop μ-loop
-kind-at-requires c κs =
-    let b = found (c .before .before) .block in
-    (b .starts, b .first-end, b .end-to, omega (arith, b .to-at, b .inside))
+kind-at-requires c κs = let l = c .before .before in places-in (s l) (at l .loop .at) (from l) (stop l) (found l)
 
 kind-over-requires : tie.Need-kind-over-requires Inv-loop μ-loop
 kind-over-requires c κs = search needs

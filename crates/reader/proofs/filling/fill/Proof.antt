@@ -7,7 +7,7 @@ use lib.Dec.{ltb}
 use lib.ListN.{length}
 use Rattle.blocks.specs.declared.collecting.Stop.{Stop}
 use Rattle.blocks.specs.Items.{meaningAt, NextAt, itemIs}
-use Rattle.blocks.proofs.WalkLaws.{fresh, next-none, next-found, last, moves}
+use Rattle.blocks.proofs.WalkLaws.{fresh, next-none, next-found, last, moves, places-in}
 use Rattle.reader.specs.Counting.{withItem}
 use Rattle.reader.specs.Filling.{cuesWith, regionsWith, stylesWith}
 use Rattle.reader.proofs.FillLaws.{Fits, fits-of, Filled, fill-start, fill-room, fill-next, fill-end, fill-lengths}
@@ -90,11 +90,10 @@ module _ (c : tie.After-next Inv-loop μ-loop) where
 put-requires : tie.Need-put-requires Inv-loop μ-loop
 put-requires c κs =
     let l = c .before .before .before .before in
-    let b = found l .block in
     let start = at l .before .before in
     let a = start .args in
     let own = at l .loop in (
-      (b .starts, b .first-end, b .end-to, omega (arith, b .to-at, b .inside)),
+      places-in (s l) (own .at) (from l) (stop l) (found l),
       fill-room (s l) (a .cues .now) (a .regions .now) (a .styles .now) (own .at) (from l) (stop l) (found l) (own .n) (own .cues) (own .regions) (own .styles) (own .inv) (fits start),
     )
 

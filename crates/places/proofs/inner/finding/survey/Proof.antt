@@ -1,5 +1,5 @@
 -- `places::inner::finding::survey` meets its contract: what has been found, with what the blocks from `at` on give, is what the text has.
-use Prim.Native.Nat.{ℕ, _-_, _≤_, _<_}
+use Prim.Native.Nat.{ℕ, _-_}
 use mathlib.Core.Path.{_≡_, sym, ap, _∙_}
 use mathlib.Core.Bool.{true}
 use mathlib.Core.List.{List, []}
@@ -11,8 +11,8 @@ use Rattle.format.specs.Blocks.{hasSignature}
 use Rattle.format.specs.Lists.{Item, itemOver}
 use Rattle.blocks.specs.declared.collecting.Stop.{Stop}
 use Rattle.blocks.specs.Collecting.{headerEnd}
-use Rattle.blocks.specs.Items.{meaningAt, NextAt, kindOver}
-use Rattle.blocks.proofs.WalkLaws.{fresh, after-header, next-none, next-found, last, moves, over-is}
+use Rattle.blocks.specs.Items.{meaningAt, PlacesIn, NextAt, kindOver}
+use Rattle.blocks.proofs.WalkLaws.{fresh, after-header, next-none, next-found, last, moves, places-in, over-is}
 use Rattle.places.proofs.FindLaws.{Walking, walk-start, walk-end, walk-over, walk-next}
 use borrow.Author.Needs.{needs}
 use Rattle.places.proofs.inner.finding.survey.Statement.{statement}
@@ -94,14 +94,11 @@ module _ (c : tie.After-next Inv-loop μ-loop) where
   abbrev item : Item
   item = meaningAt (ltb 0 (at .loop .found .cues)) s from stop
 
-  -- its places are those of a block that stands in the text
-  places-in : (from < stop .head .first) × (stop .head .first ≤ stop .head .end) × (stop .head .end ≤ stop .to) × (stop .to ≤ length s)
-  places-in =
-      let b = found .block in
-      (b .starts, b .first-end, b .end-to, omega (arith, b .to-at, b .inside))
+  inside : PlacesIn s from stop
+  inside = places-in s (at .loop .at) from stop found
 
 kind-at-requires : tie.Need-kind-at-requires Inv-loop μ-loop
-kind-at-requires c κs = places-in (c .before .before)
+kind-at-requires c κs = inside (c .before .before)
 
 kind-over-requires : tie.Need-kind-over-requires Inv-loop μ-loop
 kind-over-requires c κs = search needs
@@ -124,7 +121,7 @@ with-block-requires c κs =
     let l = c .before .before .before .before .before in
     let own = at l .loop in (
       omega (arith, own .inv .few, moves (s l) (own .at) (from l) (stop l) (found l), found l .block .inside),
-      (places-in l, c .before .before .kind-at .ensures),
+      (inside l, c .before .before .kind-at .ensures),
     )
 
 -- what is found with the item
