@@ -17,6 +17,7 @@ use Rattle.laws.proofs.Tests.{by-test}
 use Rattle.blocks.specs.Items.{part, definitionWith, NoWord}
 use Rattle.blocks.proofs.BlockLaws.{slice-first}
 
+-- no whitespace is skipped, and no digit stands there
 no-times : (b : ℕ) (x : List ℕ) → digit b ≡ false → white b ≡ false → timings (b ∷ x) ≡ failed
 unfolding timings timestamp onGot pastRun run isEmpty
 no-times b x d w = rw (w, d)
@@ -36,6 +37,7 @@ pub other-line :
 unfolding timingLine timingOf
 other-line s a b k l d w = ap (timingOf (part s a b)) (ap timings (slice-first s a b (omega arith) k) ∙ no-times (getD s a 0) (part s (a + 1) b .bytes) d w)
 
+-- both words begin with another byte
 pub other-word :
     (s : List ℕ) (a b : ℕ)
     → a < b
@@ -46,5 +48,6 @@ pub other-word :
 unfolding isWord startsWith
 other-word s a b k l x y = rw (slice-first s a b (omega arith) k, ne-eqb (getD s a 0) 0x53 x, ne-eqb (getD s a 0) 0x52 y) (refl, refl)
 
+-- a first line that is neither word opens no block
 pub no-definition : (seen : Bool) (line : List ℕ) (text : Part) → NoWord line → definitionWith seen line text ≡ nothing
 no-definition seen line text h = by-test seen (λ y. rw y) (λ n. rw (n, h .0, h .1))
