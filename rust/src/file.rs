@@ -90,7 +90,8 @@ pub(crate) fn plain_string(bytes: Vec<u8>) -> String {
     String::from_utf8(bytes).expect("plain text is well-formed")
 }
 
-/// The plain text of a raw file: one leading byte order mark dropped, line ends made LF, NUL and ill-formed bytes made U+FFFD.
+/// The plain text of a raw file: one leading byte order mark dropped, line ends made LF, NUL made U+FFFD, and broken bytes as
+/// `String::from_utf8_lossy` makes them: one U+FFFD for each longest run that could have begun a sequence and for each stray byte.
 pub fn convert(raw: &[u8]) -> Result<String, Refusal> {
     let mut values = [0; 8];
     let (number, room) = with_room(raw.len().min(crate::MAX_FILE), 2, &mut values, |room, values| lent::convert(raw, room, values));

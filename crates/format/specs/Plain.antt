@@ -1,7 +1,7 @@
 -- Document 01, "From bytes to plain text": what a raw file's bytes become, and which texts are plain.
 -- Every definition is total, on any list of numbers.
 use Prim.Native.Nat.{ℕ, zero, suc, pred}
-use mathlib.Core.Bool.{Bool, true, false, cond, not, _&&_}
+use mathlib.Core.Bool.{Bool, cond, not, _&&_}
 use mathlib.Core.List.{List, [], _∷_, _++_}
 use mathlib.Core.Option.{Option, none, some}
 use mathlib.Core.Path.{_≡_}
@@ -62,16 +62,16 @@ unfoldable pub following : List Row → ℕ → Option (List Range)
 following [] b = none
 following (r ∷ rs) b = cond (within (r .first) b) (some (r .rest)) (following rs b)
 
--- do bytes of these ranges, one after the other, stand at the text's start
-unfoldable pub follow : List Range → List ℕ → Bool
-follow [] s = true
-follow (r ∷ rs) [] = false
-follow (r ∷ rs) (b ∷ s) = within r b && follow rs s
+-- how many bytes at the text's start are of these ranges, one after the other
+unfoldable pub fits : List Range → List ℕ → ℕ
+fits [] s = 0
+fits (r ∷ rs) [] = 0
+fits (r ∷ rs) (b ∷ s) = cond (within r b) (suc (fits rs s)) 0
 
 -- the length of a sequence whose first byte has this row, before the bytes s; 0 where it is not well-formed
 unfoldable pub sequenceOf : Option (List Range) → List ℕ → ℕ
 sequenceOf none s = 0
-sequenceOf (some rs) s = cond (follow rs s) (suc (length rs)) 0
+sequenceOf (some rs) s = cond (eqb (fits rs s) (length rs)) (suc (length rs)) 0
 
 -- the length of the well-formed sequence at the text's start; 0 where none stands there
 unfoldable pub sequence : List ℕ → ℕ
@@ -83,9 +83,19 @@ pub record Piece : Type 0 where
   pub more : ℕ
   pub out : List ℕ
 
--- "Each byte that belongs to no well-formed sequence becomes one U+FFFD."
+-- how many of the bytes s go on with a sequence whose first byte has this row
+unfoldable pub begunOf : Option (List Range) → List ℕ → ℕ
+begunOf none s = 0
+begunOf (some rs) s = fits rs s
+
+-- how many bytes after the first the longest run has that stands at the text's start and could have begun a sequence
+unfoldable pub begun : List ℕ → ℕ
+begun [] = 0
+begun (b ∷ s) = begunOf (following table b) s
+
+-- "One U+FFFD for each longest run that could have begun a sequence and for each stray byte" (request Q-2 of document 02)
 unfoldable pub illFormed : List ℕ → Piece
-illFormed s = record { more = 0; out = replacement }
+illFormed s = record { more = begun s; out = replacement }
 
 -- "Well-formed UTF-8 stays", n being the sequence's length
 unfoldable pub kept : ℕ → List ℕ → Piece

@@ -3,6 +3,7 @@ pub mod Tests
 pub mod Sequences
 pub mod Newlines
 pub mod Repair
+pub mod Replacements
 pub mod Plainness
 pub mod Seams
 pub mod PlainText

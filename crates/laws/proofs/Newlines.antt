@@ -1,17 +1,18 @@
 -- Line ends: what `newlines` makes of two pieces joined, of a well-formed sequence, and of a text without CR.
 use Prim.Native.Nat.{ℕ, suc, _≤_}
 use mathlib.Core.Path.{_≡_, refl, sym, ap, _∙_}
-use mathlib.Core.Bool.{true, false, not, _&&_, false≢true}
+use mathlib.Core.Bool.{true, false, cond, not, _&&_, false≢true}
 use mathlib.Core.List.{List, [], _∷_, _++_, append-assoc}
+use mathlib.Core.Option.{Option, none, some}
 use native.Mathlib.Omega.{arith}
 use lib.Dec.{leb, eqb}
 use lib.ListN.{length, take, drop, length-append}
 use borrow.Author.Tests.{eqb-true, eqb-false, ne-eqb, not-true}
 use Rattle.format.specs.Bytes.{lf, cr}
 use Rattle.format.specs.Texts.{startsWith, endsWith}
-use Rattle.format.specs.Plain.{newline, newlines, Range, within, follow, sequence}
+use Rattle.format.specs.Plain.{newline, newlines, Range, within, table, following, fits, begun}
 use Rattle.laws.proofs.Tests.{and-left, and-right, by-test, absent, absent-append}
-use Rattle.laws.proofs.Sequences.{high, within-high, within-ascii, sequence-same, well-formed}
+use Rattle.laws.proofs.Sequences.{high, table-high, within-high, within-ascii, begun-of, begun-none}
 
 pub newlines-other : (b : ℕ) (s : List ℕ) → (b ≡ cr → ⊥) → newlines (b ∷ s) ≡ b ∷ newlines s
 unfolding newlines newline
@@ -91,9 +92,9 @@ newlines-keeps (b ∷ s) a =
     ∙ ap (λ r. b ∷ r) (newlines-keeps s (and-right (not (eqb b cr)) (absent cr s) a))
 
 -- what begins with a line end does not begin with a byte from 0x80 on
-follow-lf : (r : Range) (rs : List Range) (s : List ℕ) → leb 0x80 (r .low) ≡ true → follow (r ∷ rs) (lf ∷ s) ≡ false
-unfolding follow
-follow-lf r rs s h = rw (within-ascii r lf h (omega arith))
+fits-lf : (r : Range) (rs : List Range) (s : List ℕ) → leb 0x80 (r .low) ≡ true → fits (r ∷ rs) (lf ∷ s) ≡ 0
+unfolding fits
+fits-lf r rs s h = rw (within-ascii r lf h (omega arith))
 
 pub newlines-begins : (s : List ℕ) → startsWith (lf ∷ []) s ≡ true → newlines s ≡ lf ∷ newlines (drop 1 s)
 unfolding startsWith
@@ -102,42 +103,47 @@ newlines-begins (b ∷ s) y =
     let e : b ≡ lf = eqb-true b lf (and-left (eqb b lf) true y) in
     newlines-other b s (λ q. omega arith) ∙ rw e
 
-follow-cr : (r : Range) (rs : List Range) (s : List ℕ) → leb 0x80 (r .low) ≡ true → follow (r ∷ rs) (newlines (cr ∷ s)) ≡ false
-follow-cr r rs s h =
+fits-cr : (r : Range) (rs : List Range) (s : List ℕ) → leb 0x80 (r .low) ≡ true → fits (r ∷ rs) (newlines (cr ∷ s)) ≡ 0
+fits-cr r rs s h =
     by-test (startsWith (lf ∷ []) s)
-    (λ y. rw (newlines-crlf s y, newlines-begins s y) (follow-lf r rs (newlines (drop 1 s)) h))
-    (λ n. rw (newlines-cr s n) (follow-lf r rs (newlines s) h))
+    (λ y. rw (newlines-crlf s y, newlines-begins s y) (fits-lf r rs (newlines (drop 1 s)) h))
+    (λ n. rw (newlines-cr s n) (fits-lf r rs (newlines s) h))
 
-pub follow-newlines : (rs : List Range) (s : List ℕ) → high rs ≡ true → follow rs (newlines s) ≡ follow rs s
-unfolding follow high newlines
-follow-newlines [] s h = refl
-follow-newlines (r ∷ rs) [] h = refl
-follow-newlines (r ∷ rs) (b ∷ s) h =
+-- as many bytes follow a first byte before line ends are changed as after
+pub fits-newlines : (rs : List Range) (s : List ℕ) → high rs ≡ true → fits rs (newlines s) ≡ fits rs s
+unfolding fits high newlines
+fits-newlines [] s h = refl
+fits-newlines (r ∷ rs) [] h = refl
+fits-newlines (r ∷ rs) (b ∷ s) h =
     let l = and-left (leb 0x80 (r .low)) (high rs) h in
     by-test (eqb b cr)
     (λ y. let e : b ≡ cr = eqb-true b cr y in
-    rw e (follow-cr r rs s l ∙ sym (rw (within-ascii r cr l (omega arith)))))
-    (λ n. rw (newlines-other b s (eqb-false b cr n)) (ap (λ t. within r b && t) (follow-newlines rs s (and-right (leb 0x80 (r .low)) (high rs) h))))
+    rw e (fits-cr r rs s l ∙ sym (rw (within-ascii r cr l (omega arith)))))
+    (λ n. rw (newlines-other b s (eqb-false b cr n))
+    (ap (λ k. cond (within r b) (suc k) 0) (fits-newlines rs s (and-right (leb 0x80 (r .low)) (high rs) h))))
+
+-- the first n bytes pass through: no line end is among them
+pub record Through (s : List ℕ) (n : ℕ) : Type 0 where
+  pub first : take n (newlines s) ≡ take n s
+  pub rest : drop n (newlines s) ≡ newlines (drop n s)
 
 -- bytes from 0x80 on pass through
-follow-through :
-    (rs : List Range) (s : List ℕ)
-    → high rs ≡ true
-    → follow rs s ≡ true
-    → (take (length rs) (newlines s) ≡ take (length rs) s) × (drop (length rs) (newlines s) ≡ newlines (drop (length rs) s))
-unfolding follow high
-follow-through [] s h f = (refl, refl)
-follow-through (r ∷ rs) [] h f = absurd (false≢true f)
-follow-through (r ∷ rs) (b ∷ s) h f =
-    let l : 0x80 ≤ b = within-high r b (and-left (leb 0x80 (r .low)) (high rs) h) (and-left (within r b) (follow rs s) f) in
-    let t = follow-through rs s (and-right (leb 0x80 (r .low)) (high rs) h) (and-right (within r b) (follow rs s) f) in
-    rw (newlines-other b s (λ e. omega arith)) (ap (λ x. b ∷ x) (t .0), t .1)
+fits-through : (rs : List Range) (s : List ℕ) → high rs ≡ true → Through s (fits rs s)
+unfolding fits high
+fits-through [] s h = record { first = refl; rest = refl }
+fits-through (r ∷ rs) [] h = record { first = refl; rest = refl }
+fits-through (r ∷ rs) (b ∷ s) h =
+    by-test (within r b)
+    (λ y.
+    let l : 0x80 ≤ b = within-high r b (and-left (leb 0x80 (r .low)) (high rs) h) y in
+    let t = fits-through rs s (and-right (leb 0x80 (r .low)) (high rs) h) in
+    let o = newlines-other b s (λ e. omega arith) in
+    rw y (record { first = rw o (ap (λ x. b ∷ x) (t .first)); rest = rw o (t .rest) }))
+    (λ n. rw n (record { first = refl; rest = refl }))
 
-pub sequence-newlines : (b : ℕ) (s : List ℕ) → sequence (b ∷ newlines s) ≡ sequence (b ∷ s)
-sequence-newlines b s = sequence-same b (newlines s) s (λ rs h. follow-newlines rs s h)
-
-pub sequence-through :
-    (b : ℕ) (s : List ℕ) (n : ℕ)
-    → sequence (b ∷ s) ≡ suc n
-    → (take n (newlines s) ≡ take n s) × (drop n (newlines s) ≡ newlines (drop n s))
-sequence-through b s n q = let w = well-formed b s n q in rw (w .size) (follow-through (w .rest) s (w .high) (w .stands))
+pub begun-through : (b : ℕ) (s : List ℕ) → Through s (begun (b ∷ s))
+begun-through b s = go (following table b) refl
+  where
+    go : (o : Option (List Range)) → following table b ≡ o → Through s (begun (b ∷ s))
+    go none e = rw (begun-none b s e) (record { first = refl; rest = refl })
+    go (some rs) e = rw (begun-of b s rs e) (fits-through rs s (table-high b rs e))

@@ -1,31 +1,25 @@
 -- What converting does at the start of a text that is left, and the theorems of plain text: its length, that it is plain, and that a
 -- plain text is its own.
 use Prim.Native.Nat.{ℕ, _*_, _≤_, _<_}
-use mathlib.Core.Path.{_≡_, refl, ap, _∙_}
+use mathlib.Core.Path.{_≡_, ap, _∙_}
 use mathlib.Core.Bool.{true, false}
 use mathlib.Core.List.{List, [], _∷_, _++_}
 use native.Mathlib.Omega.{arith}
 use lib.ListN.{length, drop, length-drop}
 use Rattle.format.specs.Bytes.{nul, lf, cr, byteOrderMark}
 use Rattle.format.specs.Texts.{startsWith}
-use Rattle.format.specs.Plain.{dropBom, newlines, illFormed, piece, repair, toPlain, plainText, Plain}
+use Rattle.format.specs.Plain.{dropBom, newlines, piece, repair, toPlain, plainText, Plain}
 use Rattle.laws.proofs.Tests.{by-test}
-use Rattle.laws.proofs.Newlines.{newlines-other, newlines-cr, newlines-crlf, newlines-length, newlines-absent, newlines-keeps, sequence-newlines, sequence-through}
-use Rattle.laws.proofs.Repair.{zeroByte, broken, whole, kind, piece-same, piece-ascii, repair-piece, repair-ascii, repair-length}
+use Rattle.laws.proofs.Newlines.{newlines-other, newlines-cr, newlines-crlf, newlines-length, newlines-absent, newlines-keeps, fits-newlines, begun-through}
+use Rattle.laws.proofs.Repair.{piece-same, piece-more, piece-ascii, repair-piece, repair-ascii, repair-length}
 use Rattle.laws.proofs.Plainness.{repair-plain, plain-repair, plain-absent}
 
 -- a piece is the same before line ends are changed and after
 piece-newlines : (b : ℕ) (s : List ℕ) → piece (b ∷ newlines s) ≡ piece (b ∷ s)
-piece-newlines b s = piece-same b (newlines s) s (sequence-newlines b s) (λ n q. sequence-through b s n q .0)
+piece-newlines b s = piece-same b (newlines s) s (λ rs h. fits-newlines rs s h) (begun-through b s .first)
 
 drop-newlines : (b : ℕ) (s : List ℕ) → drop (piece (b ∷ s) .more) (newlines s) ≡ newlines (drop (piece (b ∷ s) .more) s)
-unfolding illFormed
-drop-newlines b s =
-    elim (kind b s) [
-      | zeroByte z e ↦ rw e refl
-      | broken z q e ↦ rw e refl
-      | whole n z q e ↦ rw e (sequence-through b s n q .1)
-    ]
+drop-newlines b s = rw (piece-more b s) (begun-through b s .rest)
 
 -- a first byte that is no CR: its piece, and the rest
 pub toPlain-piece : (b : ℕ) (s : List ℕ) → (b ≡ cr → ⊥) → toPlain (b ∷ s) ≡ piece (b ∷ s) .out ++ toPlain (drop (piece (b ∷ s) .more) s)

@@ -10,9 +10,9 @@ use lib.Seq.{length-take-le, drop-at}
 use borrow.Author.Tests.{ltb-true, lt-ltb, eqb-false, eq-eqb, ne-eqb, not-true}
 use Rattle.format.specs.Bytes.{nul, cr, replacement}
 use Rattle.format.specs.Texts.{startsWith}
-use Rattle.format.specs.Plain.{Range, within, following, follow, table, sequenceOf, sequence, illFormed, piece, repairFrom, repair, plainStart, plainFrom, firstNotPlain, Plain}
+use Rattle.format.specs.Plain.{Range, within, following, fits, table, sequenceOf, sequence, illFormed, piece, repairFrom, repair, plainStart, plainFrom, firstNotPlain, Plain}
 use Rattle.laws.proofs.Tests.{and-left, and-right, and-false, by-test, absent}
-use Rattle.laws.proofs.Sequences.{high, within-high, sequence-length, sequence-take, well-formed}
+use Rattle.laws.proofs.Sequences.{high, within-high, fits-first, sequence-length, sequence-take, well-formed}
 use Rattle.laws.proofs.Repair.{zeroByte, broken, whole, kind, piece-whole}
 
 -- what `plainStart` tests
@@ -91,7 +91,7 @@ plain-whole b s n t p =
     ∙ ap (λ r. suc n + firstNotPlain r) (drop-at (take n s) t n (length-take-le n s (sequence-length b s n (p .stands))))
 
 plain-replacement : (t : List ℕ) → firstNotPlain (replacement ++ t) ≡ 3 + firstNotPlain t
-unfolding plainFrom plainStart startsWith sequence sequenceOf following table within follow
+unfolding plainFrom plainStart startsWith sequence sequenceOf following table within fits
 plain-replacement t =
     let e : firstNotPlain (replacement ++ t) ≡ suc (suc (suc (firstNotPlain t))) = refl in
     omega arith
@@ -154,19 +154,19 @@ pub plain-repair : (s : List ℕ) → Plain s → repair s ≡ s
 plain-repair s p = repair-keeps 0 s (omega arith) p
 
 -- the bytes of rs stand at the start, and from there on the text is plain: no CR is in it
-absent-follow : (rs : List Range) (s : List ℕ) → high rs ≡ true → follow rs s ≡ true → plainFrom (length rs) s ≡ length s → absent cr s ≡ true
-unfolding follow high absent plainFrom
-absent-follow rs [] h f p = refl
-absent-follow (r ∷ rs) (b ∷ s) h f p =
-    let l : 0x80 ≤ b = within-high r b (and-left (leb 0x80 (r .low)) (high rs) h) (and-left (within r b) (follow rs s) f) in
-    rw (ne-eqb b cr (λ e. omega arith))
-    (absent-follow rs s (and-right (leb 0x80 (r .low)) (high rs) h) (and-right (within r b) (follow rs s) f) (omega arith))
-absent-follow [] (b ∷ s) h f p =
+absent-fits : (rs : List Range) (s : List ℕ) → high rs ≡ true → fits rs s ≡ length rs → plainFrom (length rs) s ≡ length s → absent cr s ≡ true
+unfolding fits high absent plainFrom
+absent-fits rs [] h f p = refl
+absent-fits (r ∷ rs) (b ∷ s) h f p =
+    let i = fits-first r rs b s f in
+    let l : 0x80 ≤ b = within-high r b (and-left (leb 0x80 (r .low)) (high rs) h) (i .0) in
+    rw (ne-eqb b cr (λ e. omega arith)) (absent-fits rs s (and-right (leb 0x80 (r .low)) (high rs) h) (i .1) (omega arith))
+absent-fits [] (b ∷ s) h f p =
     let i = plain-first b s p in
     let w = well-formed b s (i .more) (i .start .stands) in
     let e : plainFrom (length (w .rest)) s ≡ length s = rw (w .size) at (i .rest) in
-    rw (ne-eqb b cr (i .start .notCr)) (absent-follow (w .rest) s (w .high) (w .stands) e)
+    rw (ne-eqb b cr (i .start .notCr)) (absent-fits (w .rest) s (w .high) (w .stands) e)
 
 pub plain-absent : (s : List ℕ) → Plain s → absent cr s ≡ true
-unfolding follow high
-plain-absent s p = absent-follow [] s refl refl p
+unfolding fits high
+plain-absent s p = absent-fits [] s refl refl p

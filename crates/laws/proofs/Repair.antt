@@ -11,9 +11,9 @@ use lib.Seq.{take-append-le}
 use borrow.Author.Tests.{eqb-true, eqb-false, eq-eqb, ne-eqb}
 use Rattle.format.specs.Bytes.{nul, lf, replacement}
 use Rattle.format.specs.Texts.{startsWith}
-use Rattle.format.specs.Plain.{sequence, illFormed, kept, piece, repairFrom, repair}
+use Rattle.format.specs.Plain.{Range, fits, sequence, begun, illFormed, kept, piece, repairFrom, repair}
 use Rattle.laws.proofs.Tests.{and-right, by-test, absent, absent-append, absent-take}
-use Rattle.laws.proofs.Sequences.{sequence-length, sequence-seam, sequence-ascii}
+use Rattle.laws.proofs.Sequences.{high, fits-ascii, sequence-same, begun-same, sequence-begun, begun-length, sequence-ascii}
 
 pub piece-nul : (b : ℕ) (s : List ℕ) → b ≡ nul → piece (b ∷ s) ≡ record { more = 0; out = replacement }
 unfolding piece startsWith
@@ -43,28 +43,32 @@ kind b s =
     go n zero e = broken (eqb-false b nul n) e (piece-broken b s (eqb-false b nul n) e)
     go n (suc k) e = whole k (eqb-false b nul n) e (piece-whole b s k (eqb-false b nul n) e)
 
--- two texts with one first byte begin with the same piece where their sequences are the same
+-- two texts with one first byte begin with the same piece where as many bytes of both can follow it, and these are the same
 pub piece-same :
     (b : ℕ) (s t : List ℕ)
-    → sequence (b ∷ s) ≡ sequence (b ∷ t)
-    → ((n : ℕ) → sequence (b ∷ t) ≡ suc n → take n s ≡ take n t)
+    → ((rs : List Range) → high rs ≡ true → fits rs s ≡ fits rs t)
+    → take (begun (b ∷ t)) s ≡ take (begun (b ∷ t)) t
     → piece (b ∷ s) ≡ piece (b ∷ t)
 unfolding piece startsWith kept illFormed
-piece-same b s t e same =
+piece-same b s t fit same =
     ap (λ p. cond (startsWith (nul ∷ []) (b ∷ s)) (record { more = 0; out = replacement }) p) (go (sequence (b ∷ t)) refl)
   where
     go : (k : ℕ) → sequence (b ∷ t) ≡ k → kept (sequence (b ∷ s)) (b ∷ s) ≡ kept (sequence (b ∷ t)) (b ∷ t)
-    go zero q = rw (e, q)
-    go (suc n) q = rw (e, q, same n q)
+    go zero q = rw (sequence-same b s t fit, q, begun-same b s t fit)
+    go (suc n) q = rw (sequence-same b s t fit, q, rw (sequence-begun b t n q) at same)
 
-pub piece-more : (b : ℕ) (s : List ℕ) → piece (b ∷ s) .more ≤ length s
+-- a piece reaches as far as the run at its place: a NUL is a run of its own, and a well-formed sequence is one
+pub piece-more : (b : ℕ) (s : List ℕ) → piece (b ∷ s) .more ≡ begun (b ∷ s)
 unfolding illFormed
 piece-more b s =
     elim (kind b s) [
-      | zeroByte z e ↦ rw e (omega arith)
-      | broken z q e ↦ rw e (omega arith)
-      | whole n z q e ↦ rw e (sequence-length b s n q)
+      | zeroByte z e ↦ rw e (sym (sequence-begun b s 0 (sequence-ascii b s (omega arith))))
+      | broken z q e ↦ rw e refl
+      | whole n z q e ↦ rw e (sym (sequence-begun b s n q))
     ]
+
+pub piece-inside : (b : ℕ) (s : List ℕ) → piece (b ∷ s) .more ≤ length s
+piece-inside b s = omega (arith, piece-more b s, begun-length b s)
 
 piece-out : (b : ℕ) (s : List ℕ) → length (piece (b ∷ s) .out) ≤ 3 * suc (piece (b ∷ s) .more)
 unfolding illFormed
@@ -100,7 +104,7 @@ repair-bound (suc n) (b ∷ s) = omega (arith, repair-bound n s)
 repair-bound zero (b ∷ s) =
     let p = piece (b ∷ s) in
     omega
-    (arith, length-append (p .out) (repairFrom (p .more) s), piece-out b s, piece-more b s, repair-bound (p .more) s)
+    (arith, length-append (p .out) (repairFrom (p .more) s), piece-out b s, piece-inside b s, repair-bound (p .more) s)
 
 pub repair-length : (s : List ℕ) → length (repair s) ≤ 3 * length s
 repair-length s = omega (arith, repair-bound 0 s)
@@ -108,7 +112,7 @@ repair-length s = omega (arith, repair-bound 0 s)
 -- a text before an ASCII byte
 piece-seam : (c : ℕ) (x : List ℕ) (d : ℕ) (s : List ℕ) → d < 0x80 → piece (c ∷ (x ++ d ∷ s)) ≡ piece (c ∷ x)
 piece-seam c x d s l =
-    piece-same c (x ++ d ∷ s) x (sequence-seam c x d s l) (λ n q. take-append-le n x (d ∷ s) (sequence-length c x n q))
+    piece-same c (x ++ d ∷ s) x (λ rs h. fits-ascii rs x d s h l) (take-append-le (begun (c ∷ x)) x (d ∷ s) (begun-length c x))
 
 repair-before : (n : ℕ) (x : List ℕ) (d : ℕ) (s : List ℕ) → d < 0x80 → n ≤ length x → repairFrom n (x ++ d ∷ s) ≡ repairFrom n x ++ repair (d ∷ s)
 unfolding repairFrom
@@ -117,7 +121,7 @@ repair-before (suc n) [] d s l h = absurd (omega arith)
 repair-before (suc n) (c ∷ x) d s l h = repair-before n x d s l (omega arith)
 repair-before zero (c ∷ x) d s l h =
     let p = piece (c ∷ x) in
-    rw (piece-seam c x d s l, repair-before (p .more) x d s l (piece-more c x))
+    rw (piece-seam c x d s l, repair-before (p .more) x d s l (piece-inside c x))
     (sym (append-assoc (p .out) (repairFrom (p .more) x) (repair (d ∷ s))))
 
 pub repair-seam : (x : List ℕ) (d : ℕ) (s : List ℕ) → d < 0x80 → repair (x ++ d ∷ s) ≡ repair x ++ repair (d ∷ s)

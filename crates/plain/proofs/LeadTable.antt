@@ -6,8 +6,8 @@ use mathlib.Core.List.{List, [], _∷_}
 use mathlib.Core.Option.{Option, none, some}
 use native.Mathlib.Omega.{arith}
 use lib.Count.{leadingZeros}
-use lib.Dec.{eqb, ltb}
-use borrow.Author.Tests.{eqb-true, eqb-false, ne-eqb, eq-eqb, lt-ltb, le-ltb}
+use lib.Dec.{leb, eqb, ltb}
+use borrow.Author.Tests.{leb-true, eqb-true, eqb-false, ne-eqb, eq-eqb, lt-ltb, le-ltb}
 use Rattle.format.specs.Plain.{Range, within, table, following}
 use Rattle.laws.proofs.Tests.{and-left, and-right, by-test}
 use Rattle.plain.specs.Lead.{rowOf, lowOf, highOf}
@@ -71,34 +71,41 @@ lengthOf b =
     (cond (ltb b 0xC2) 0 (cond (ltb 0xF4 b) 0 (leadingZeros 8 (255 - b))))
 
 right : ℕ → Bool
-right b = sameRow (following table b) (rowOf (lengthOf b) (lowOf b) (highOf b))
+right b = leb (lengthOf b) 4 && sameRow (following table b) (rowOf (lengthOf b) (lowOf b) (highOf b))
 
 all-right : allBelow 256 right ≡ true
 unfolding allBelow right sameRow sameRanges sameRange following table within rowOf lengthOf leadingZeros
 all-right = refl
 
-lead : (b : ℕ) → b < 256 → following table b ≡ rowOf (lengthOf b) (lowOf b) (highOf b)
+lead : (b : ℕ) → b < 256 → (lengthOf b ≤ 4) × (following table b ≡ rowOf (lengthOf b) (lowOf b) (highOf b))
 unfolding right
-lead b l = row-is (following table b) (rowOf (lengthOf b) (lowOf b) (highOf b)) (holds 256 right all-right b l)
+lead b l =
+    let short = leb (lengthOf b) 4 in
+    let same = sameRow (following table b) (rowOf (lengthOf b) (lowOf b) (highOf b)) in
+    let both = holds 256 right all-right b l in
+    (leb-true (lengthOf b) 4 (and-left short same both), row-is _ _ (and-right short same both))
 
 -- what the code's tests say of the byte
 module _ (b : ℕ) (byte : b < 256) where
   pub lead-ascii : leadingZeros 8 (255 - b) ≡ 0 → following table b ≡ rowOf 1 0 0
   unfolding lengthOf rowOf
-  lead-ascii e = lead b byte ∙ rw (eq-eqb (leadingZeros 8 (255 - b)) 0 e)
+  lead-ascii e = lead b byte .1 ∙ rw (eq-eqb (leadingZeros 8 (255 - b)) 0 e)
 
   pub lead-low : (leadingZeros 8 (255 - b) ≡ 0 → ⊥) → b < 0xC2 → following table b ≡ rowOf 0 0 0
   unfolding lengthOf rowOf
-  lead-low n l = lead b byte ∙ rw (ne-eqb (leadingZeros 8 (255 - b)) 0 n, lt-ltb b 0xC2 l)
+  lead-low n l = lead b byte .1 ∙ rw (ne-eqb (leadingZeros 8 (255 - b)) 0 n, lt-ltb b 0xC2 l)
 
   pub lead-high : (leadingZeros 8 (255 - b) ≡ 0 → ⊥) → 0xC2 ≤ b → 0xF4 < b → following table b ≡ rowOf 0 0 0
   unfolding lengthOf rowOf
-  lead-high n l h = lead b byte ∙ rw (ne-eqb (leadingZeros 8 (255 - b)) 0 n, le-ltb b 0xC2 l, lt-ltb 0xF4 b h)
+  lead-high n l h = lead b byte .1 ∙ rw (ne-eqb (leadingZeros 8 (255 - b)) 0 n, le-ltb b 0xC2 l, lt-ltb 0xF4 b h)
 
   pub lead-whole :
       (leadingZeros 8 (255 - b) ≡ 0 → ⊥)
       → 0xC2 ≤ b
       → b ≤ 0xF4
-      → following table b ≡ rowOf (leadingZeros 8 (255 - b)) (lowOf b) (highOf b)
+      → (leadingZeros 8 (255 - b) ≤ 4) × (following table b ≡ rowOf (leadingZeros 8 (255 - b)) (lowOf b) (highOf b))
   unfolding lengthOf
-  lead-whole n l h = lead b byte ∙ rw (ne-eqb (leadingZeros 8 (255 - b)) 0 n, le-ltb b 0xC2 l, le-ltb 0xF4 b h)
+  lead-whole n l h =
+      let e : lengthOf b ≡ leadingZeros 8 (255 - b) =
+      rw (ne-eqb (leadingZeros 8 (255 - b)) 0 n, le-ltb b 0xC2 l, le-ltb 0xF4 b h) in
+      rw e at (lead b byte)

@@ -2,7 +2,7 @@
 use Prim.Native.Nat.{ℕ, zero, suc, _+_, _≤_, _<_}
 use mathlib.Core.Path.{_≡_, refl, sym, ap, _∙_}
 use mathlib.Core.Bool.{true, false}
-use mathlib.Core.List.{List, [], _∷_, _++_}
+use mathlib.Core.List.{List, [], _∷_}
 use native.Mathlib.Omega.{arith}
 use native.Mathlib.Numerals.{add-one}
 use lib.ListN.{length, getD, take, drop, length-append, length-drop, drop-of-length-le}
@@ -10,14 +10,14 @@ use lib.Seq.{drop-cons, drop-drop, length-take-le}
 use borrow.Author.Tests.{eq-eqb, ne-eqb}
 use Rattle.format.specs.Bytes.{nul, lf, cr}
 use Rattle.format.specs.Texts.{startsWith}
-use Rattle.format.specs.Plain.{newlines, sequence, illFormed, repairFrom, toPlain, plainFrom, firstNotPlain}
-use Rattle.laws.proofs.Sequences.{sequence-length, sequence-ascii}
-use Rattle.laws.proofs.Repair.{piece-nul, piece-broken, piece-whole}
+use Rattle.format.specs.Plain.{newlines, sequence, begun, illFormed, piece, repairFrom, toPlain, plainFrom, firstNotPlain}
+use Rattle.laws.proofs.Sequences.{sequence-length, sequence-begun, begun-length, sequence-ascii}
+use Rattle.laws.proofs.Repair.{piece-nul, piece-broken, piece-whole, piece-more}
 use Rattle.laws.proofs.Plainness.{plain-sequence, plain-nul, plain-cr, plain-broken}
 use Rattle.laws.proofs.PlainText.{toPlain-piece, toPlain-ascii, toPlain-cr, toPlain-crlf}
 use Rattle.plain.specs.declared.pieces.Piece.{Piece}
 use Rattle.plain.specs.declared.pieces.Piece.the-variants.{Keep, Replace, Line, Pair}
-use Rattle.plain.specs.Pieces.{Stays, takenBy, sizeOf, putBy, Stands}
+use Rattle.plain.specs.Pieces.{Stays, takenBy, sizeOf, putBy, keptOr, runOf, Stands}
 
 module _ (s : List ℕ) (at : ℕ) (h : at < length s) where
   first : drop at s ≡ getD s at 0 ∷ drop (at + 1) s
@@ -51,47 +51,40 @@ module _ (s : List ℕ) (at : ℕ) (h : at < length s) where
         text = here ∙ toPlain-piece (getD s at 0) (drop (at + 1) s) (λ e. omega arith) ∙ rw (piece-nul (getD s at 0) (drop (at + 1) s) z);
       }
 
-  pub at-broken : (getD s at 0 ≡ nul → ⊥) → (getD s at 0 ≡ cr → ⊥) → 0 ≡ sequence (drop at s) → Stands s at (Replace 1)
-  unfolding illFormed
-  at-broken z c q =
-      let e : sequence (getD s at 0 ∷ drop (at + 1) s) ≡ 0 = sym (q ∙ ap sequence first) in
-      record {
-        some = omega arith;
-        inside = omega arith;
-        text =
-            here ∙ toPlain-piece (getD s at 0) (drop (at + 1) s) c ∙ rw (piece-broken (getD s at 0) (drop (at + 1) s) z e);
-      }
-
-  whole :
-      (n : ℕ)
-      → (getD s at 0 ≡ nul → ⊥)
+  -- a piece of as many bytes as the run at this place: the text goes on after it
+  run-stands :
+      (p : Piece)
       → (getD s at 0 ≡ cr → ⊥)
-      → suc n ≡ sequence (drop at s)
-      → Stands s at (Keep (suc n))
-  whole n z c q =
+      → takenBy p ≡ suc (begun (getD s at 0 ∷ drop (at + 1) s))
+      → piece (getD s at 0 ∷ drop (at + 1) s) .out ≡ putBy p (drop at s)
+      → Stands s at p
+  run-stands p c size out =
       let b = getD s at 0 in
       let r = drop (at + 1) s in
-      let e : sequence (b ∷ r) ≡ suc n = sym (q ∙ ap sequence first) in
-      let k : at + 1 + n ≡ at + suc n = omega arith in
+      let k : at + 1 + begun (b ∷ r) ≡ at + takenBy p = omega arith in
       record {
         some = omega arith;
-        inside = omega (arith, sequence-length b r n e, length-drop (at + 1) s);
-        text =
-            here
-            ∙ toPlain-piece b r c
-            ∙ rw (piece-whole b r n z e, drop-drop n (at + 1) s, k)
-            (sym (ap (λ t. take (suc n) t ++ toPlain (drop (at + suc n) s)) first));
+        inside = omega (arith, begun-length b r, length-drop (at + 1) s);
+        text = here ∙ toPlain-piece b r c ∙ rw (out, piece-more b r, drop-drop (begun (b ∷ r)) (at + 1) s, k);
       }
 
-  pub at-whole :
-      (n : ℕ)
-      → (getD s at 0 ≡ nul → ⊥)
-      → (getD s at 0 ≡ cr → ⊥)
-      → (n ≡ 0 → ⊥)
-      → n ≡ sequence (drop at s)
-      → Stands s at (Keep n)
-  at-whole zero z c p q = absurd (p refl)
-  at-whole (suc n) z c p q = whole n z c q
+  -- what stands here, where neither NUL nor CR does
+  pub at-run : (getD s at 0 ≡ nul → ⊥) → (getD s at 0 ≡ cr → ⊥) → Stands s at (runOf (drop at s))
+  unfolding keptOr illFormed
+  at-run z c = go (sequence (drop at s)) refl
+    where
+      go : (n : ℕ) → sequence (drop at s) ≡ n → Stands s at (runOf (drop at s))
+      go zero q =
+          rw q
+          (run-stands (Replace (suc (begun (drop at s)))) c (ap (λ t. suc (begun t)) first)
+          (ap (λ p. p .out) (piece-broken (getD s at 0) (drop (at + 1) s) z (ap sequence (sym first) ∙ q))))
+      go (suc n) q =
+          let b = getD s at 0 in
+          let r = drop (at + 1) s in
+          let e : sequence (b ∷ r) ≡ suc n = ap sequence (sym first) ∙ q in
+          rw q
+          (run-stands (Keep (suc n)) c (ap suc (sym (sequence-begun b r n e)))
+          (ap (λ p. p .out) (piece-whole b r n z e) ∙ ap (take (suc n)) (sym first)))
 
   -- a byte that stays
   pub at-stays : Stays (getD s at 0) → toPlain (drop at s) ≡ getD s at 0 ∷ toPlain (drop (at + 1) s)
@@ -123,18 +116,16 @@ module _ (s : List ℕ) (at : ℕ) (h : at < length s) where
   ahead : drop at s ≡ getD s at 0 ∷ drop (at + 1) s
   ahead = first s at h
 
-  pub plain-at :
+  plain-at :
       (n : ℕ)
       → (getD s at 0 ≡ nul → ⊥)
       → (getD s at 0 ≡ cr → ⊥)
-      → (n ≡ 0 → ⊥)
-      → n ≡ sequence (drop at s)
-      → (at + n ≤ length s) × (firstNotPlain (drop at s) ≡ n + firstNotPlain (drop (at + n) s))
-  plain-at zero z c p q = absurd (p refl)
-  plain-at (suc n) z c p q =
+      → sequence (drop at s) ≡ suc n
+      → (at + suc n ≤ length s) × (firstNotPlain (drop at s) ≡ suc n + firstNotPlain (drop (at + suc n) s))
+  plain-at n z c q =
       let b = getD s at 0 in
       let r = drop (at + 1) s in
-      let e : sequence (b ∷ r) ≡ suc n = sym (q ∙ ap sequence ahead) in
+      let e : sequence (b ∷ r) ≡ suc n = ap sequence (sym ahead) ∙ q in
       let k : at + 1 + n ≡ at + suc n = omega arith in (
         omega (arith, sequence-length b r n e, length-drop (at + 1) s),
         ap firstNotPlain ahead
@@ -142,20 +133,47 @@ module _ (s : List ℕ) (at : ℕ) (h : at < length s) where
             ∙ rw (drop-drop n (at + 1) s, k),
       )
 
+  -- where the code keeps n bytes, the text goes on after them; where it does not, it is not plain here
+  pub plain-at-kept :
+      (n : ℕ)
+      → (getD s at 0 ≡ nul → ⊥)
+      → (getD s at 0 ≡ cr → ⊥)
+      → Keep n ≡ runOf (drop at s)
+      → (0 < n) × (at + n ≤ length s) × (firstNotPlain (drop at s) ≡ n + firstNotPlain (drop (at + n) s))
+  unfolding keptOr
+  plain-at-kept n z c e = go (sequence (drop at s)) refl
+    where
+      go :
+          (m : ℕ)
+          → sequence (drop at s) ≡ m
+          → (0 < n) × (at + n ≤ length s) × (firstNotPlain (drop at s) ≡ n + firstNotPlain (drop (at + n) s))
+      go zero q =
+          let f : Keep n ≡ Replace (suc (begun (drop at s))) = rw q at e in
+          let k : _≡_ {A = ℕ} 0 1 = cc in
+          absurd (omega arith)
+      go (suc m) q =
+          let f : Keep n ≡ Keep (suc m) = rw q at e in
+          let k : n ≡ suc m = cc in
+          let p = plain-at m z c q in
+          rw k (omega arith, p .0, p .1)
+
+  pub plain-at-other : ((n : ℕ) → runOf (drop at s) ≡ Keep n → ⊥) → firstNotPlain (drop at s) ≡ 0
+  unfolding keptOr
+  plain-at-other other = go (sequence (drop at s)) refl
+    where
+      go : (m : ℕ) → sequence (drop at s) ≡ m → firstNotPlain (drop at s) ≡ 0
+      go zero q = ap firstNotPlain ahead ∙ plain-broken (getD s at 0) (drop (at + 1) s) (ap sequence (sym ahead) ∙ q)
+      go (suc m) q = absurd (other (suc m) (rw q))
+
   pub plain-at-stays : Stays (getD s at 0) → firstNotPlain (drop at s) ≡ 1 + firstNotPlain (drop (at + 1) s)
   plain-at-stays k =
-      let e : sequence (drop at s) ≡ 1 = ap sequence ahead ∙ sequence-ascii (getD s at 0) (drop (at + 1) s) (k .ascii) in
-      plain-at 1 (k .notNul) (k .notCr) (λ z. omega arith) (sym e) .1
+      plain-at 0 (k .notNul) (k .notCr) (ap sequence ahead ∙ sequence-ascii (getD s at 0) (drop (at + 1) s) (k .ascii)) .1
 
   pub plain-at-nul : getD s at 0 ≡ nul → firstNotPlain (drop at s) ≡ 0
   plain-at-nul e = ap firstNotPlain ahead ∙ plain-nul (getD s at 0) (drop (at + 1) s) e
 
   pub plain-at-cr : getD s at 0 ≡ cr → firstNotPlain (drop at s) ≡ 0
   plain-at-cr e = ap firstNotPlain ahead ∙ plain-cr (getD s at 0) (drop (at + 1) s) e
-
-  pub plain-at-broken : 0 ≡ sequence (drop at s) → firstNotPlain (drop at s) ≡ 0
-  plain-at-broken q =
-      ap firstNotPlain ahead ∙ plain-broken (getD s at 0) (drop (at + 1) s) (sym (q ∙ ap sequence ahead))
 
 pub plain-at-end : (s : List ℕ) (at : ℕ) → length s ≤ at → firstNotPlain (drop at s) ≡ 0
 unfolding plainFrom

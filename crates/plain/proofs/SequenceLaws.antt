@@ -1,99 +1,129 @@
--- A sequence at a place of a slice, from its row: what each test of the code decides.
-use Prim.Native.Nat.{ℕ, zero, suc, _+_, _-_, _≤_, _<_}
-use mathlib.Core.Path.{_≡_, refl, sym, ap, _∙_}
-use mathlib.Core.Bool.{Bool, true, false, cond, _&&_}
+-- What stands at a place of a slice, from its first byte's row: what each test of the code decides.
+use Prim.Native.Nat.{ℕ, zero, suc, _+_, _≤_, _<_}
+use mathlib.Core.Path.{_≡_, refl, ap, _∙_}
+use mathlib.Core.Bool.{true, false, false≢true}
 use mathlib.Core.List.{List, [], _∷_}
+use mathlib.Core.Option.{some}
 use native.Mathlib.Omega.{arith}
 use native.Mathlib.Numerals.{add-one}
-use lib.ListN.{length, getD, drop, replicate, length-drop, length-replicate}
-use lib.Seq.{drop-cons}
-use Rattle.format.specs.Plain.{Range, _to_, within, table, following, follow, sequence}
-use Rattle.laws.proofs.Tests.{by-test}
-use Rattle.laws.proofs.Sequences.{follow-length, sequence-of, sequence-broken, sequence-none}
-use Rattle.plain.specs.Lead.{rowOf}
+use lib.ListN.{length, getD, drop, replicate, drop-of-length-le}
+use lib.Seq.{drop-cons, drop-drop}
+use Rattle.format.specs.Plain.{Range, _to_, within, table, following, fits, sequence}
+use Rattle.laws.proofs.Sequences.{sequence-of, sequence-broken, sequence-none, begun-of, begun-none}
+use Rattle.plain.specs.declared.pieces.Piece.{Piece}
+use Rattle.plain.specs.declared.pieces.Piece.the-variants.{Keep, Replace}
+use Rattle.plain.specs.Lead.{rowOf, startsIn}
+use Rattle.plain.specs.Pieces.{keptOr, runOf}
 
-pub follow-next :
-    (s : List ℕ) (i : ℕ) (r : Range) (rs : List Range)
-    → i < length s
-    → follow (r ∷ rs) (drop i s) ≡ within r (getD s i 0) && follow rs (drop (i + 1) s)
-unfolding follow
-follow-next s i r rs h = rw (add-one i, drop-cons s i 0 h)
+-- the test of one byte
+pub holds-in : (s : List ℕ) (at : ℕ) (r : Range) → at < length s → startsIn r (drop at s) ≡ within r (getD s at 0)
+unfolding startsIn
+holds-in s at r h = rw (drop-cons s at 0 h)
 
-pub trail-next :
-    (s : List ℕ) (i end : ℕ)
-    → i < end
-    → i < length s
-    → follow (replicate (end - i) (0x80 to 0xBF)) (drop i s)
-    ≡ within (0x80 to 0xBF) (getD s i 0) && follow (replicate (end - (i + 1)) (0x80 to 0xBF)) (drop (i + 1) s)
-trail-next s i end l h =
-    let e : end - i ≡ suc (end - (i + 1)) = omega arith in
-    ap (λ k. follow (replicate k (0x80 to 0xBF)) (drop i s)) e ∙ follow-next s i (0x80 to 0xBF) (replicate (end - (i + 1)) (0x80 to 0xBF)) h
+pub holds-end : (s : List ℕ) (at : ℕ) (r : Range) → length s ≤ at → startsIn r (drop at s) ≡ false
+unfolding startsIn
+holds-end s at r h = rw (drop-of-length-le s h)
 
-pub trail-end : (s : List ℕ) (i end : ℕ) → end ≤ i → follow (replicate (end - i) (0x80 to 0xBF)) s ≡ true
-unfolding follow
-trail-end s i end l = let e : end - i ≡ 0 = omega arith in rw e
+-- a byte that can follow, and the others; a byte that cannot
+fits-more : (r : Range) (rs : List Range) (t : List ℕ) → startsIn r t ≡ true → fits (r ∷ rs) t ≡ suc (fits rs (drop 1 t))
+unfolding fits startsIn
+fits-more r rs [] y = absurd (false≢true y)
+fits-more r rs (b ∷ t) y = rw y
+
+fits-none : (r : Range) (rs : List Range) (t : List ℕ) → startsIn r t ≡ false → fits (r ∷ rs) t ≡ 0
+unfolding fits startsIn
+fits-none r rs [] n = refl
+fits-none r rs (b ∷ t) n = rw n
 
 -- the row of the byte at `at`
 module _ (s : List ℕ) (at : ℕ) (h : at < length s) (low high : ℕ) where
-  pub sequence-short : (len : ℕ) → following table (getD s at 0) ≡ rowOf len low high → len < 2 → len ≡ sequence (drop at s)
-  unfolding rowOf follow
-  sequence-short zero e l = rw (drop-cons s at 0 h) (sym (sequence-none (getD s at 0) (drop (suc at) s) e))
-  sequence-short (suc zero) e l = rw (drop-cons s at 0 h) (sym (sequence-of (getD s at 0) (drop (suc at) s) [] e refl))
-  sequence-short (suc (suc n)) e l = absurd (omega arith)
+  abbrev Row : ℕ → Type 0
+  Row len = following table (getD s at 0) ≡ rowOf len low high
 
-  -- a sequence of several bytes: the tests on the bytes after the first
-  sequence-long :
-      (n : ℕ)
-      → following table (getD s at 0) ≡ rowOf (suc (suc n)) low high
-      → sequence (drop at s) ≡ cond (follow (low to high ∷ replicate n (0x80 to 0xBF)) (drop (at + 1) s)) (suc (suc n)) 0
+  here : drop at s ≡ getD s at 0 ∷ drop (at + 1) s
+  here = rw (add-one at) (drop-cons s at 0 h)
+
+  next : (k : ℕ) → drop 1 (drop (at + k) s) ≡ drop (at + suc k) s
+  next k = let e : at + k + 1 ≡ at + suc k = omega arith in drop-drop 1 (at + k) s ∙ ap (λ i. drop i s) e
+
+  -- all ranges of the row fit, or the first n of them alone
+  kept : (rs : List Range) → following table (getD s at 0) ≡ some rs → fits rs (drop (at + 1) s) ≡ length rs → Keep (suc (length rs)) ≡ runOf (drop at s)
+  unfolding keptOr
+  kept rs e f = rw (here, sequence-of (getD s at 0) (drop (at + 1) s) rs e f)
+
+  broken :
+      (rs : List Range) (n : ℕ)
+      → following table (getD s at 0) ≡ some rs
+      → fits rs (drop (at + 1) s) ≡ n
+      → n < length rs
+      → Replace (suc n) ≡ runOf (drop at s)
+  unfolding keptOr
+  broken rs n e f l =
+      let b = getD s at 0 in
+      let t = drop (at + 1) s in
+      rw (here, sequence-broken b t rs e (λ q. omega arith), begun-of b t rs e, f)
+
+  pub run-none : (len : ℕ) → Row len → len ≡ 0 → Replace 1 ≡ runOf (drop at s)
+  unfolding keptOr rowOf
+  run-none zero e z = rw (here, sequence-none (getD s at 0) (drop (at + 1) s) e, begun-none (getD s at 0) (drop (at + 1) s) e)
+  run-none (suc n) e z = absurd (omega arith)
+
+  pub run-one : (len : ℕ) → Row len → len ≡ 1 → Keep 1 ≡ runOf (drop at s)
+  unfolding rowOf fits
+  run-one zero e z = absurd (omega arith)
+  run-one (suc zero) e z = kept [] e refl
+  run-one (suc (suc n)) e z = absurd (omega arith)
+
+  pub run-first : (len : ℕ) → Row len → 2 ≤ len → startsIn (low to high) (drop (at + 1) s) ≡ false → Replace 1 ≡ runOf (drop at s)
   unfolding rowOf
-  sequence-long n e =
-      let rs = low to high ∷ replicate n (0x80 to 0xBF) in
-      let r = drop (suc at) s in
-      rw (add-one at, drop-cons s at 0 h)
-      (by-test (follow rs r)
-      (λ y. sequence-of (getD s at 0) r rs e y ∙ rw (y, length-replicate n (0x80 to 0xBF)))
-      (λ z. sequence-broken (getD s at 0) r rs e z ∙ rw z))
+  run-first zero e l out = absurd (omega arith)
+  run-first (suc zero) e l out = absurd (omega arith)
+  run-first (suc (suc n)) e l out =
+      let rs = replicate n (0x80 to 0xBF) in
+      broken (low to high ∷ rs) 0 e (fits-none (low to high) rs (drop (at + 1) s) out) (omega arith)
 
-  sequence-row :
-      (len : ℕ)
-      → following table (getD s at 0) ≡ rowOf len low high
-      → 2 ≤ len
-      → sequence (drop at s) ≡ cond (follow (low to high ∷ replicate (len - 2) (0x80 to 0xBF)) (drop (at + 1) s)) len 0
-  sequence-row len e l =
-      let n = len - 2 in
-      let q : len ≡ suc (suc n) = omega arith in
-      sequence-long n (rw q at e)
-      ∙ ap (λ k. cond (follow (low to high ∷ replicate n (0x80 to 0xBF)) (drop (at + 1) s)) k 0) (sym q)
+  -- the second byte can follow
+  module _ (second : startsIn (low to high) (drop (at + 1) s) ≡ true) where
+    after-second : (rs : List Range) → fits (low to high ∷ rs) (drop (at + 1) s) ≡ suc (fits rs (drop (at + 2) s))
+    after-second rs = fits-more (low to high) rs (drop (at + 1) s) second ∙ ap (λ t. suc (fits rs t)) (next 1)
 
-  -- the row of a sequence of several bytes, and the length that the slice has left
-  module _ (len : ℕ) (row : following table (getD s at 0) ≡ rowOf len low high) (several : 2 ≤ len) where
-    pub sequence-few : length s - at < len → 0 ≡ sequence (drop at s)
-    sequence-few l =
-        let rs = low to high ∷ replicate (len - 2) (0x80 to 0xBF) in
-        let r = drop (at + 1) s in
-        by-test (follow rs r)
-        (λ y. absurd (omega (arith, follow-length rs r y, length-replicate (len - 2) (0x80 to 0xBF), length-drop (at + 1) s)))
-        (λ z. sym (sequence-row len row several ∙ rw z))
+    pub run-two : (len : ℕ) → Row len → len ≡ 2 → Keep 2 ≡ runOf (drop at s)
+    unfolding rowOf fits
+    run-two len e z = kept (low to high ∷ []) (e ∙ ap (λ k. rowOf k low high) z) (after-second [])
 
-    second-and-rest :
-        len ≤ length s - at
-        → sequence (drop at s)
-        ≡ cond (within (low to high) (getD s (at + 1) 0) && follow (replicate (len - 2) (0x80 to 0xBF)) (drop (at + 2) s)) len 0
-    second-and-rest l =
-        let e : at + 1 + 1 ≡ at + 2 = omega arith in
-        sequence-row len row several
-        ∙ rw (follow-next s (at + 1) (low to high) (replicate (len - 2) (0x80 to 0xBF)) (omega arith), e)
+    pub run-second : (len : ℕ) → Row len → 3 ≤ len → startsIn (0x80 to 0xBF) (drop (at + 2) s) ≡ false → Replace 2 ≡ runOf (drop at s)
+    unfolding rowOf
+    run-second zero e l out = absurd (omega arith)
+    run-second (suc zero) e l out = absurd (omega arith)
+    run-second (suc (suc zero)) e l out = absurd (omega arith)
+    run-second (suc (suc (suc n))) e l out =
+        let rs = replicate n (0x80 to 0xBF) in
+        broken (low to high ∷ 0x80 to 0xBF ∷ rs) 1 e
+        (after-second (0x80 to 0xBF ∷ rs) ∙ ap suc (fits-none (0x80 to 0xBF) rs (drop (at + 2) s) out)) (omega arith)
 
-    pub sequence-second : len ≤ length s - at → within (low to high) (getD s (at + 1) 0) ≡ false → 0 ≡ sequence (drop at s)
-    sequence-second l w = sym (second-and-rest l ∙ rw w)
+    -- the third byte can follow
+    module _ (third : startsIn (0x80 to 0xBF) (drop (at + 2) s) ≡ true) where
+      after-third : (rs : List Range) → fits (low to high ∷ 0x80 to 0xBF ∷ rs) (drop (at + 1) s) ≡ suc (suc (fits rs (drop (at + 3) s)))
+      after-third rs =
+          after-second (0x80 to 0xBF ∷ rs)
+          ∙ ap suc (fits-more (0x80 to 0xBF) rs (drop (at + 2) s) third ∙ ap (λ t. suc (fits rs t)) (next 2))
 
-    pub sequence-rest :
-        len ≤ length s - at
-        → within (low to high) (getD s (at + 1) 0) ≡ true
-        → (t : Bool)
-        → t ≡ follow (replicate (at + len - (at + 2)) (0x80 to 0xBF)) (drop (at + 2) s)
-        → cond t len 0 ≡ sequence (drop at s)
-    sequence-rest l w t f =
-        let e : at + len - (at + 2) ≡ len - 2 = omega arith in
-        sym (second-and-rest l ∙ rw (w, f, e))
+      pub run-three : (len : ℕ) → Row len → len ≡ 3 → Keep 3 ≡ runOf (drop at s)
+      unfolding rowOf fits
+      run-three len e z = kept (low to high ∷ 0x80 to 0xBF ∷ []) (e ∙ ap (λ k. rowOf k low high) z) (after-third [])
+
+      -- what is left: a sequence of four bytes
+      four : (len : ℕ) → Row len → len ≡ 4 → following table (getD s at 0) ≡ some (low to high ∷ 0x80 to 0xBF ∷ 0x80 to 0xBF ∷ [])
+      unfolding rowOf
+      four len e z = e ∙ ap (λ k. rowOf k low high) z
+
+      pub run-third : (len : ℕ) → Row len → len ≡ 4 → startsIn (0x80 to 0xBF) (drop (at + 3) s) ≡ false → Replace 3 ≡ runOf (drop at s)
+      run-third len e z out =
+          broken (low to high ∷ 0x80 to 0xBF ∷ 0x80 to 0xBF ∷ []) 2 (four len e z)
+          (after-third (0x80 to 0xBF ∷ []) ∙ ap (λ n. suc (suc n)) (fits-none (0x80 to 0xBF) [] (drop (at + 3) s) out)) (omega arith)
+
+      pub run-four : (len : ℕ) → Row len → len ≡ 4 → startsIn (0x80 to 0xBF) (drop (at + 3) s) ≡ true → Keep 4 ≡ runOf (drop at s)
+      unfolding fits
+      run-four len e z fourth =
+          kept (low to high ∷ 0x80 to 0xBF ∷ 0x80 to 0xBF ∷ []) (four len e z)
+          (after-third (0x80 to 0xBF ∷ []) ∙ ap (λ n. suc (suc n)) (fits-more (0x80 to 0xBF) [] (drop (at + 3) s) fourth))

@@ -1,11 +1,11 @@
--- What is known of a sequence from its first byte, as three numbers.
+-- What is known of a sequence from its first byte, as three numbers, and the test of the bytes after it.
 use Prim.Native.Nat.{ℕ, zero, suc}
-use mathlib.Core.Bool.{cond}
+use mathlib.Core.Bool.{Bool, false, cond}
 use mathlib.Core.List.{List, [], _∷_}
 use mathlib.Core.Option.{Option, none, some}
 use lib.Dec.{eqb}
 use lib.ListN.{replicate}
-use Rattle.format.specs.Plain.{Range, _to_}
+use Rattle.format.specs.Plain.{Range, _to_, within}
 
 -- the row of a first byte: the sequence's length (0: it begins none), and the range of the second byte
 unfoldable pub rowOf : ℕ → ℕ → ℕ → Option (List Range)
@@ -19,3 +19,8 @@ lowOf b = cond (eqb b 0xE0) 0xA0 (cond (eqb b 0xF0) 0x90 0x80)
 
 abbrev pub highOf : ℕ → ℕ
 highOf b = cond (eqb b 0xED) 0x9F (cond (eqb b 0xF4) 0x8F 0xBF)
+
+-- does the text start with a byte of this range
+unfoldable pub startsIn : Range → List ℕ → Bool
+startsIn r [] = false
+startsIn r (b ∷ s) = within r b

@@ -1,6 +1,7 @@
 // Raw bytes to plain text, and the test that a text is plain. Any bytes are taken, of any length, and nothing is asked of the caller.
 use format::Converted;
 use format::Plainness;
+use pieces::Piece;
 ghost use mathlib.Core.Path.{_≡_};
 ghost use mathlib.Core.Bool.{true};
 ghost use Prim.Native.Nat.{_+_, _<_, _≤_};
@@ -122,11 +123,10 @@ fn plain_len(s: &[u8]) -> usize
             if b == 0x0D {
                 return i;
             }
-            let n = sequences::sequence_at(s, i);
-            if n == 0 {
-                return i;
+            match sequences::run_at(s, i) {
+                Piece::Keep(n) => i += n,
+                _ => return i,
             }
-            i += n;
         }
     }
     i

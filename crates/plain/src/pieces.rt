@@ -77,11 +77,7 @@ pub(crate) fn piece_at(s: &[u8], at: usize) -> Piece
     if b == 0 {
         return Piece::Replace(1);
     }
-    let n = super::sequences::sequence_at(s, at);
-    if n == 0 {
-        return Piece::Replace(1);
-    }
-    Piece::Keep(n)
+    super::sequences::run_at(s, at)
 }
 
 // Copies `n` bytes of `s` from `at` on into the room, from `to` on.

@@ -1,9 +1,11 @@
-// Well-formed sequences, recognised from the bits of the first byte.
+// Well-formed sequences and the runs that could have begun one, recognised from the bits of the first byte.
+use super::pieces::Piece;
 ghost use mathlib.Core.Path.{_≡_};
-ghost use Prim.Native.Nat.{_-_, _<_, _≤_};
-ghost use lib.ListN.{length, drop, replicate};
-ghost use Rattle.format.specs.Plain.{_to_, within, table, following, follow, sequence};
-ghost use Rattle.plain.specs.Lead.{rowOf, lowOf, highOf};
+ghost use Prim.Native.Nat.{_<_, _≤_};
+ghost use lib.ListN.{length, drop};
+ghost use Rattle.format.specs.Plain.{_to_, table, following};
+ghost use Rattle.plain.specs.Lead.{rowOf, lowOf, highOf, startsIn};
+ghost use Rattle.plain.specs.Pieces.{runOf};
 
 // What the table says of a first byte: the length of its sequence (0: it begins none) and the range of its second byte.
 pub struct Lead {
@@ -53,7 +55,7 @@ fn high(b: u8) -> u8
 
 // The length is the number of leading one bits of the first byte; C0, C1 and F5 to FF begin no sequence.
 fn lead_of(b: u8) -> Lead
-    ensures { λ r. ⌜ following table b ≡ rowOf (r .len) (r .low) (r .high) ⌝ }
+    ensures { λ r. ⌜ (r .len ≤ 4) × (following table b ≡ rowOf (r .len) (r .low) (r .high)) ⌝ }
 {
     let ones = u8::leading_zeros(!b);
     if ones == 0 {
@@ -72,46 +74,43 @@ fn lead_of(b: u8) -> Lead
     }
 }
 
-fn in_range(b: u8, low: u8, high: u8) -> bool
-    ensures { λ r. ⌜ r ≡ within (low to high) b ⌝ }
+// Does a byte from `low` to `high` stand at `at`; where the text has ended, none does.
+fn holds(s: &[u8], at: usize, low: u8, high: u8) -> bool
+    ensures { λ r. ⌜ r ≡ startsIn (low to high) (drop at (now (s .entry))) ⌝ }
 {
-    low <= b && b <= high
-}
-
-// Are all bytes from `from` up to `end` of the range 80 to BF.
-fn trailing(s: &[u8], from: usize, end: usize) -> bool
-    requires { ⌜ (from ≤ end) × (end ≤ length (now s)) ⌝ }
-    ensures { λ r. ⌜ r ≡ follow (replicate (end - from) (0x80 to 0xBF)) (drop from (now (s .entry))) ⌝ }
-{
-    let mut i = from;
-    while i < end {
-        if !in_range(s[i], 0x80, 0xBF) {
-            return false;
-        }
-        i += 1;
+    if at < s.len() {
+        let b = s[at];
+        return low <= b && b <= high;
     }
-    true
+    false
 }
 
-// The length of the well-formed sequence that starts at `at`; 0 where none does.
-pub(crate) fn sequence_at(s: &[u8], at: usize) -> usize
+// What stands at a place: a well-formed sequence, or the longest run that could have begun one; a byte that begins none is a run of its own.
+pub(crate) fn run_at(s: &[u8], at: usize) -> Piece
     requires { ⌜ at < length (now s) ⌝ }
-    ensures { λ r. ⌜ r ≡ sequence (drop at (now (s .entry))) ⌝ }
+    ensures { λ r. ⌜ r ≡ runOf (drop at (now (s .entry))) ⌝ }
 {
     let first = lead_of(s[at]);
-    let len = first.len;
-    if len < 2 {
-        return len;
+    if first.len == 0 {
+        return Piece::Replace(1);
     }
-    if s.len() - at < len {
-        return 0;
+    if first.len == 1 {
+        return Piece::Keep(1);
     }
-    if !in_range(s[at + 1], first.low, first.high) {
-        return 0;
+    if !holds(s, at + 1, first.low, first.high) {
+        return Piece::Replace(1);
     }
-    if trailing(s, at + 2, at + len) {
-        len
-    } else {
-        0
+    if first.len == 2 {
+        return Piece::Keep(2);
     }
+    if !holds(s, at + 2, 0x80, 0xBF) {
+        return Piece::Replace(2);
+    }
+    if first.len == 3 {
+        return Piece::Keep(3);
+    }
+    if !holds(s, at + 3, 0x80, 0xBF) {
+        return Piece::Replace(3);
+    }
+    Piece::Keep(4)
 }

@@ -1,11 +1,12 @@
 -- `plain::plain_len` meets its contract: the bytes passed are plain, so the first that is not is the first of the rest.
-use Prim.Native.Nat.{_+_, _≤_, _-_}
+use Prim.Native.Nat.{_+_, _≤_, _<_, _-_}
 use mathlib.Core.Path.{_≡_, sym, _∙_}
+use mathlib.Core.Logic.{⊎-elim}
 use native.Mathlib.Omega.{arith}
 use lib.ListN.{length, drop}
 use borrow.Author.Needs.{needs}
 use Rattle.format.specs.Plain.{firstNotPlain}
-use Rattle.plain.proofs.PieceLaws.{plain-at, plain-at-stays, plain-at-nul, plain-at-cr, plain-at-broken, plain-at-end}
+use Rattle.plain.proofs.PieceLaws.{plain-at-kept, plain-at-stays, plain-at-nul, plain-at-cr, plain-at-other, plain-at-end}
 use Rattle.plain.proofs.plain_len.Statement.{statement}
 use Rattle.plain.proofs.plain_len.Tie as tie
 
@@ -46,36 +47,43 @@ returns-2 c =
     let at = c .before .before .before .before .before .before in
     omega (arith, plain-at-cr (at .before .before .args .s .now) (at .loop .i) (omega arith) (c .if3 .taken))
 
-sequence-at-requires : tie.Need-sequence-at-requires Inv-loop μ-loop
-sequence-at-requires c κs = omega arith
+run-at-requires : tie.Need-run-at-requires Inv-loop μ-loop
+run-at-requires c κs = omega arith
 
-returns-3 : tie.Need-returns-3 Inv-loop μ-loop
-returns-3 c =
-    let at = c .before .before .before .before .before .before .before .before in
-    let none = sym (c .if4 .taken) ∙ c .before .sequence-at .ensures in
-    omega (arith, plain-at-broken (at .before .before .args .s .now) (at .loop .i) (omega arith) none)
+enum-known-n : tie.Need-enum-known-n Inv-loop μ-loop
+enum-known-n c = search needs
 
 -- a sequence stands at i: the text goes on after it
 passed :
-    (c : tie.Else4 Inv-loop μ-loop)
-    → let at = c .before .before .before .before .before .before .before .before in
+    (c : tie.After-n Inv-loop μ-loop)
+    → let at = c .before .before .before .before .before .before .before .before .before in
     let s = at .before .before .args .s .now in
-    let n = c .before .sequence-at .result in
-    (at .loop .i + n ≤ length s) × (firstNotPlain (drop (at .loop .i) s) ≡ n + firstNotPlain (drop (at .loop .i + n) s))
+    let n = c .n .given .0 .0 in
+    (0 < n) × (at .loop .i + n ≤ length s) × (firstNotPlain (drop (at .loop .i) s) ≡ n + firstNotPlain (drop (at .loop .i + n) s))
 passed c =
-    let found = c .before in
+    let found = c .before .before in
     let at = found .before .before .before .before .before .before .before in
-    plain-at (at .before .before .args .s .now) (at .loop .i) (omega arith) (found .sequence-at .result) (found .before .before .if2 .left)
-    (found .before .if3 .left) (c .if4 .left) (found .sequence-at .ensures)
+    plain-at-kept (at .before .before .args .s .now) (at .loop .i) (omega arith) (c .n .given .0 .0) (found .before .before .if2 .left) (found .before .if3 .left)
+    (sym (c .n .given .1) ∙ found .run-at .ensures)
 
 add-i-2 : tie.Need-add-i-2 Inv-loop μ-loop
-add-i-2 c = omega (arith, passed c)
+add-i-2 c = omega (arith, passed (c .before))
 
 loop-less-2 : tie.Need-loop-less-2 Inv-loop μ-loop
-loop-less-2 c = omega (arith, passed c, c .if4 .left)
+loop-less-2 c = omega (arith, passed (c .before))
 
 loop-again-2 : tie.Need-loop-again-2 Inv-loop μ-loop
-loop-again-2 c = omega (arith, passed c)
+loop-again-2 c = omega (arith, passed (c .before))
+
+returns-3 : tie.Need-returns-3 Inv-loop μ-loop
+returns-3 c =
+    let found = c .before .run-at in
+    let at = c .before .before .before .before .before .before .before .before in
+    omega (
+      arith,
+      plain-at-other (at .before .before .args .s .now) (at .loop .i) (omega arith)
+          (λ n e. ⊎-elim (λ k. omega arith) (⊎-elim (λ k. omega arith) (λ k. omega arith)) (rw (found .ensures ∙ e) at (c .match .keys2))),
+    )
 
 returns-4 : tie.Need-returns-4 Inv-loop μ-loop
 returns-4 c =
@@ -96,9 +104,10 @@ plain-len-spec =
     loop-again
     returns
     returns-2
-    sequence-at-requires
-    returns-3
+    run-at-requires
+    enum-known-n
     add-i-2
     loop-less-2
     loop-again-2
+    returns-3
     returns-4)

@@ -1,6 +1,8 @@
-//! From bytes to plain text (document 01), and the test whether a text is plain.
+//! From bytes to plain text (document 01, and request Q-2 of document 02), and the test whether a text is plain.
 
 use super::{room_too_short, too_long, Refusal, GREATEST_FILE};
+use std::collections::HashSet;
+use std::sync::OnceLock;
 
 const REPLACEMENT: &[u8] = "\u{FFFD}".as_bytes();
 
@@ -33,7 +35,32 @@ fn well_formed(bytes: &[u8], at: usize) -> Option<usize> {
     Some(2 + more)
 }
 
-/// "From bytes to plain text", without limits.
+/// Could these bytes have begun a sequence: is one character's encoding longer and does it start with them. Every character is tried, so that
+/// no table is asked.
+fn could_begin(bytes: &[u8]) -> bool {
+    static STARTS: OnceLock<HashSet<Vec<u8>>> = OnceLock::new();
+    let starts = STARTS.get_or_init(|| {
+        let mut starts = HashSet::new();
+        for character in '\0'..=char::MAX {
+            let mut room = [0; 4];
+            let encoding = character.encode_utf8(&mut room).as_bytes();
+            for length in 1..encoding.len() {
+                if !starts.contains(&encoding[..length]) {
+                    starts.insert(encoding[..length].to_vec());
+                }
+            }
+        }
+        starts
+    });
+    starts.contains(bytes)
+}
+
+/// The length of the longest run from this place on that could have begun a sequence, and 1 for a stray byte.
+fn run(bytes: &[u8], at: usize) -> usize {
+    (1..=bytes.len() - at).take_while(|length| could_begin(&bytes[at..at + length])).last().unwrap_or(1)
+}
+
+/// "From bytes to plain text" with request Q-2, without limits.
 pub fn plain_text(raw: &[u8]) -> Vec<u8> {
     let mut text = Vec::new();
     // Drop one leading EF BB BF.
@@ -56,9 +83,9 @@ pub fn plain_text(raw: &[u8]) -> Vec<u8> {
             text.extend_from_slice(&raw[at..at + length]);
             at += length;
         } else {
-            // Each byte that belongs to no well-formed sequence becomes one U+FFFD.
+            // "One U+FFFD for each longest run that could have begun a sequence and for each stray byte."
             text.extend_from_slice(REPLACEMENT);
-            at += 1;
+            at += run(raw, at);
         }
     }
     text

@@ -1,8 +1,7 @@
 -- `plain::pieces::piece_at` meets its contract.
-use mathlib.Core.Path.{sym, _∙_}
 use native.Mathlib.Omega.{arith}
 use borrow.Author.Needs.{needs}
-use Rattle.plain.proofs.PieceLaws.{at-nul, at-broken, at-whole}
+use Rattle.plain.proofs.PieceLaws.{at-nul, at-run}
 use Rattle.plain.proofs.pieces.piece_at.Statement.{statement}
 use Rattle.plain.proofs.pieces.piece_at.Tie as tie
 
@@ -20,22 +19,14 @@ returns-2 c =
     let at = c .before .before .before .before in
     at-nul (at .args .s .now) (at .args .at) (omega arith) (c .if2 .taken)
 
-sequence-at-requires : tie.Need-sequence-at-requires
-sequence-at-requires c κs = search needs
+run-at-requires : tie.Need-run-at-requires
+run-at-requires c κs = search needs
 
 returns-3 : tie.Need-returns-3
 returns-3 c =
-    let found = c .before in
-    let at = found .before .before .before .before .before in
-    at-broken (at .args .s .now) (at .args .at) (omega arith) (found .before .if2 .left) (found .before .before .if1 .left)
-    (sym (c .if3 .taken) ∙ found .sequence-at .ensures)
-
-returns-4 : tie.Need-returns-4
-returns-4 c =
-    let found = c .before in
-    let at = found .before .before .before .before .before in
-    at-whole (at .args .s .now) (at .args .at) (omega arith) (found .sequence-at .result) (found .before .if2 .left) (found .before .before .if1 .left)
-    (omega arith) (found .sequence-at .ensures)
+    let at = c .before .before .before .before .before in
+    rw (c .run-at .ensures)
+    (at-run (at .args .s .now) (at .args .at) (omega arith) (c .before .if2 .left) (c .before .before .if1 .left))
 
 pub piece-at-spec : {M : Type 1} → statement M
 piece-at-spec =
@@ -45,6 +36,5 @@ piece-at-spec =
     line-end-requires
     returns
     returns-2
-    sequence-at-requires
-    returns-3
-    returns-4)
+    run-at-requires
+    returns-3)

@@ -8,14 +8,15 @@ use Rattle.plain.proofs.sequences.lead_of.Statement.{statement}
 use Rattle.plain.proofs.sequences.lead_of.Tie as tie
 
 returns : tie.Need-returns
-returns c = lead-ascii (c .before .args .b) (omega arith) (c .if1 .taken)
+returns c = (omega arith, lead-ascii (c .before .args .b) (omega arith) (c .if1 .taken))
 
 returns-2 : tie.Need-returns-2
-returns-2 c = lead-low (c .before .before .args .b) (omega arith) (c .before .if1 .left) (c .if2 .taken)
+returns-2 c = (omega arith, lead-low (c .before .before .args .b) (omega arith) (c .before .if1 .left) (c .if2 .taken))
 
 returns-3 : tie.Need-returns-3
 returns-3 c =
-    lead-high (c .before .before .before .args .b) (omega arith) (c .before .before .if1 .left) (c .before .if2 .left) (c .if3 .taken)
+    let b = c .before .before .before .args .b in
+    (omega arith, lead-high b (omega arith) (c .before .before .if1 .left) (c .before .if2 .left) (c .if3 .taken))
 
 cast-t5 : tie.Need-cast-t5
 cast-t5 c = omega (arith, leading-le 8 (255 - c .before .before .before .args .b))
