@@ -184,7 +184,7 @@ const TEXTS: [&str; 52] = [
     "<v An&amp;na>",
     "<i.a\u{8A9E}.b c>",
 ];
-const ODD: [&[u8]; 22] = [
+const ODD: [&[u8]; 27] = [
     b"\0",
     b"\r",
     b"\n",
@@ -207,6 +207,11 @@ const ODD: [&[u8]; 22] = [
     b"\xEF\xBB\xBF",
     b"\x80",
     b"\xF0\x9F\x98",
+    b"\xE2",
+    b"\xE2\x82",
+    b"\xE2\x82\r\n",
+    b"\xEF\xBB",
+    b"\xE1\x80\xE2\xF0\x91\x92\xF1\xBF",
 ];
 
 /// A name or a value, now and then of two.

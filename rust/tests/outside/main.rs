@@ -5,6 +5,7 @@
 //! gives it). A difference names its file's seed.
 mod callers;
 mod compare;
+mod decoding;
 mod generate;
 mod lent;
 mod limits;
