@@ -1,7 +1,7 @@
 // Well-formed sequences and the runs that could have begun one, recognised from the bits of the first byte.
 use super::pieces::Piece;
 ghost use mathlib.Core.Path.{_≡_};
-ghost use Prim.Native.Nat.{_<_, _≤_};
+ghost use Prim.Native.Nat.{_+_, _<_, _≤_};
 ghost use lib.ListN.{length, drop};
 ghost use Rattle.format.specs.Plain.{_to_, table, following};
 ghost use Rattle.plain.specs.Lead.{rowOf, lowOf, highOf, startsIn};
@@ -74,12 +74,13 @@ fn lead_of(b: u8) -> Lead
     }
 }
 
-// Does a byte from `low` to `high` stand at `at`; where the text has ended, none does.
-fn holds(s: &[u8], at: usize, low: u8, high: u8) -> bool
-    ensures { λ r. ⌜ r ≡ startsIn (low to high) (drop at (now (s .entry))) ⌝ }
+// Does a byte from `low` to `high` stand `k` bytes after the place `at`; where the text has ended, none does.
+fn holds(s: &[u8], at: usize, k: usize, low: u8, high: u8) -> bool
+    requires { ⌜ at < length (now s) ⌝ }
+    ensures { λ r. ⌜ r ≡ startsIn (low to high) (drop (at + k) (now (s .entry))) ⌝ }
 {
-    if at < s.len() {
-        let b = s[at];
+    if k < s.len() - at {
+        let b = s[at + k];
         return low <= b && b <= high;
     }
     false
@@ -97,19 +98,19 @@ pub(crate) fn run_at(s: &[u8], at: usize) -> Piece
     if first.len == 1 {
         return Piece::Keep(1);
     }
-    if !holds(s, at + 1, first.low, first.high) {
+    if !holds(s, at, 1, first.low, first.high) {
         return Piece::Replace(1);
     }
     if first.len == 2 {
         return Piece::Keep(2);
     }
-    if !holds(s, at + 2, 0x80, 0xBF) {
+    if !holds(s, at, 2, 0x80, 0xBF) {
         return Piece::Replace(2);
     }
     if first.len == 3 {
         return Piece::Keep(3);
     }
-    if !holds(s, at + 3, 0x80, 0xBF) {
+    if !holds(s, at, 3, 0x80, 0xBF) {
         return Piece::Replace(3);
     }
     Piece::Keep(4)

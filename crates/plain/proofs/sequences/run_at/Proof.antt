@@ -34,9 +34,6 @@ returns-2 c =
     let row = got .lead-of .ensures .1 in
     run-one (args .s .now) (args .at) (omega arith) (lead .low) (lead .high) (lead .len) row (c .if2 .taken)
 
-add-holds : tie.Need-add-holds
-add-holds c = search needs
-
 holds-requires : tie.Need-holds-requires
 holds-requires c κs = search needs
 
@@ -65,9 +62,6 @@ returns-4 c =
     let lead = got .lead-of .result in
     let row = got .lead-of .ensures .1 in
     run-two (args .s .now) (args .at) (omega arith) (lead .low) (lead .high) (second known) (lead .len) row (c .if4 .taken)
-
-add-holds-2 : tie.Need-add-holds-2
-add-holds-2 c = search needs
 
 holds-requires-2 : tie.Need-holds-requires-2
 holds-requires-2 c κs = search needs
@@ -98,9 +92,6 @@ returns-6 c =
     let lead = got .lead-of .result in
     let row = got .lead-of .ensures .1 in
     run-three (args .s .now) (args .at) (omega arith) (lead .low) (lead .high) (second known) (third more) (lead .len) row (c .if6 .taken)
-
-add-holds-3 : tie.Need-add-holds-3
-add-holds-3 c = search needs
 
 holds-requires-3 : tie.Need-holds-requires-3
 holds-requires-3 c κs = search needs
@@ -135,15 +126,12 @@ run-at-spec =
     lead-of-requires
     returns
     returns-2
-    add-holds
     holds-requires
     returns-3
     returns-4
-    add-holds-2
     holds-requires-2
     returns-5
     returns-6
-    add-holds-3
     holds-requires-3
     returns-7
     returns-8)
