@@ -206,6 +206,20 @@ fn worst() {
     }
 }
 
+/// A room as long as the text makes `convert` go over the bytes twice, since it cannot know before that the text fits.
+fn converting() {
+    heading("Converting", &["room of three times the file", "room as long as the text", "is the text plain"]);
+    for (name, raw) in samples::bytes() {
+        let scanned = scanning(&raw);
+        let text = Read::of(&raw).text;
+        let mut room = vec![0; 3 * raw.len()];
+        let convert = seconds(|| assert_eq!(lent::convert(&raw, &mut room, &mut [0; 8]), 0));
+        let twice = seconds(|| assert_eq!(lent::convert(&raw, &mut room[..text.len()], &mut [0; 8]), 0));
+        let plain = seconds(|| assert_eq!(lent::first_not_plain(&text, &mut [0; 8]), 0));
+        row(name, raw.len(), scanned, &[convert, twice, plain * raw.len() as f64 / text.len() as f64]);
+    }
+}
+
 fn worst_texts() {
     heading("Worst cases of a cue's text", &["tree"]);
     for (name, text) in samples::worst_texts() {
@@ -219,7 +233,7 @@ fn worst_texts() {
 
 fn main() {
     let chosen: Vec<String> = std::env::args().skip(1).collect();
-    let tables: [(&str, fn()); 3] = [("episodes", episodes), ("worst", worst), ("texts", worst_texts)];
+    let tables: [(&str, fn()); 4] = [("episodes", episodes), ("worst", worst), ("converting", converting), ("texts", worst_texts)];
     let run = move || {
         for (name, table) in tables {
             if chosen.is_empty() || chosen.iter().any(|word| word == name) {

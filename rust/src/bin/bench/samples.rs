@@ -76,11 +76,8 @@ pub fn worst() -> Vec<(&'static str, Vec<u8>)> {
         ("only NUL", filled("WEBVTT\n\n", b"\0")),
         ("only bytes FF", filled("WEBVTT\n\n", b"\xFF")),
         ("only cut sequences F0 9F 98", filled("WEBVTT\n\n", b"\xF0\x9F\x98")),
-        ("only cut sequences E2 82", filled("WEBVTT\n\n", b"\xE2\x82")),
-        ("only surrogates ED A0 80", filled("WEBVTT\n\n", b"\xED\xA0\x80")),
         ("only two-byte characters", filled("WEBVTT\n\n", "ß".as_bytes())),
         ("only three-byte characters", filled("WEBVTT\n\n", "語".as_bytes())),
-        ("only four-byte characters", filled("WEBVTT\n\n", "😀".as_bytes())),
         ("` a` on a timing line", filled(timing, b" a")),
         ("` line:0` on a timing line", filled(timing, b" line:0")),
         ("lines `-->`", filled("WEBVTT\n\n", b"-->\n")),
@@ -92,6 +89,30 @@ pub fn worst() -> Vec<(&'static str, Vec<u8>)> {
             filled(timing, &digits)
         }),
         ("10^5 regions, 10^4 cues that name them", regions(100_000, 10_000)),
+    ]
+}
+
+/// What converting meets, each kind of byte by itself, and texts.
+pub fn bytes() -> Vec<(&'static str, Vec<u8>)> {
+    let of = |with: &[u8]| filled("WEBVTT\n\n", with);
+    vec![
+        ("an episode", episode(12_000_000, "\n")),
+        ("a text in Russian", of("Последний трамвай не ждёт. ".as_bytes())),
+        ("one line", of(b"x")),
+        ("CR LF after every second byte", of(b"xx\r\n")),
+        ("CR", of(b"\r")),
+        ("two-byte characters", of("ß".as_bytes())),
+        ("three-byte characters", of("語".as_bytes())),
+        ("four-byte characters", of("😀".as_bytes())),
+        ("one to four bytes in turn", of("aß語😀".as_bytes())),
+        ("NUL", of(b"\0")),
+        ("FF", of(b"\xFF")),
+        ("80", of(b"\x80")),
+        ("C2", of(b"\xC2")),
+        ("E2 82", of(b"\xE2\x82")),
+        ("F0 9F 98", of(b"\xF0\x9F\x98")),
+        ("F0 9F 41", of(b"\xF0\x9FA")),
+        ("ED A0 80", of(b"\xED\xA0\x80")),
     ]
 }
 
