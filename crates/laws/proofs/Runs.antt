@@ -12,6 +12,10 @@ use borrow.Author.Tests.{eqb-true, eq-eqb, ne-eqb, ltb-true, ltb-false}
 use Rattle.format.specs.Texts.{same, all, run, pastRun, endsWith, withoutLast}
 use Rattle.laws.proofs.Tests.{by-test, and-left, and-right, and-false}
 
+-- the byte at a place, and the bytes after it
+pub drop-first : (s : List ℕ) (at : ℕ) → at < length s → drop at s ≡ getD s at 0 ∷ drop (at + 1) s
+drop-first s at h = rw (add-one at) (drop-cons s at 0 h)
+
 module _ (p : ℕ → Bool) where
   pub run-stop : (s : List ℕ) (i : ℕ) → i < length s → p (getD s i 0) ≡ false → run p (drop i s) ≡ []
   unfolding run

@@ -4,13 +4,13 @@ use mathlib.Core.Path.{_≡_, refl, sym, ap, _∙_}
 use mathlib.Core.Bool.{true, false}
 use mathlib.Core.List.{List, [], _∷_}
 use native.Mathlib.Omega.{arith}
-use native.Mathlib.Numerals.{add-one}
 use lib.ListN.{length, getD, take, drop, length-append, length-drop, drop-of-length-le}
 use lib.Seq.{drop-cons, drop-drop, length-take-le}
 use borrow.Author.Tests.{eq-eqb, ne-eqb}
 use Rattle.format.specs.Bytes.{nul, lf, cr}
 use Rattle.format.specs.Texts.{startsWith}
 use Rattle.format.specs.Plain.{newlines, sequence, begun, illFormed, piece, repairFrom, toPlain, plainFrom, firstNotPlain}
+use Rattle.laws.proofs.Runs.{drop-first}
 use Rattle.laws.proofs.Sequences.{sequence-length, sequence-begun, begun-length, sequence-ascii}
 use Rattle.laws.proofs.Repair.{piece-nul, piece-broken, piece-whole, piece-more}
 use Rattle.laws.proofs.Plainness.{plain-sequence, plain-nul, plain-cr, plain-broken}
@@ -20,11 +20,8 @@ use Rattle.plain.specs.declared.pieces.Piece.the-variants.{Keep, Replace
 use Rattle.plain.specs.Pieces.{Stays, takenBy, sizeOf, putBy, keptOr, runOf, Stands}
 
 module _ (s : List ℕ) (at : ℕ) (h : at < length s) where
-  first : drop at s ≡ getD s at 0 ∷ drop (at + 1) s
-  first = rw (add-one at) (drop-cons s at 0 h)
-
   here : toPlain (drop at s) ≡ toPlain (getD s at 0 ∷ drop (at + 1) s)
-  here = ap toPlain first
+  here = ap toPlain (drop-first s at h)
 
   pub at-pair : getD s at 0 ≡ cr → at + 1 < length s → getD s (at + 1) 0 ≡ lf → Stands s at Pair
   unfolding startsWith
@@ -76,15 +73,15 @@ module _ (s : List ℕ) (at : ℕ) (h : at < length s) where
       go : (n : ℕ) → sequence (drop at s) ≡ n → Stands s at (runOf (drop at s))
       go zero q =
           rw q
-          (run-stands (Replace (suc (begun (drop at s)))) c (ap (λ t. suc (begun t)) first)
-          (ap (λ p. p .out) (piece-broken (getD s at 0) (drop (at + 1) s) z (ap sequence (sym first) ∙ q))))
+          (run-stands (Replace (suc (begun (drop at s)))) c (ap (λ t. suc (begun t)) (drop-first s at h))
+          (ap (λ p. p .out) (piece-broken (getD s at 0) (drop (at + 1) s) z (ap sequence (sym (drop-first s at h)) ∙ q))))
       go (suc n) q =
           let b = getD s at 0 in
           let r = drop (at + 1) s in
-          let e : sequence (b ∷ r) ≡ suc n = ap sequence (sym first) ∙ q in
+          let e : sequence (b ∷ r) ≡ suc n = ap sequence (sym (drop-first s at h)) ∙ q in
           rw q
           (run-stands (Keep (suc n)) c (ap suc (sym (sequence-begun b r n e)))
-          (ap (λ p. p .out) (piece-whole b r n z e) ∙ ap (take (suc n)) (sym first)))
+          (ap (λ p. p .out) (piece-whole b r n z e) ∙ ap (take (suc n)) (sym (drop-first s at h))))
 
   -- a byte that stays
   pub at-stays : Stays (getD s at 0) → toPlain (drop at s) ≡ getD s at 0 ∷ toPlain (drop (at + 1) s)
@@ -113,9 +110,6 @@ at-end s at h = rw (drop-of-length-le s h) refl
 
 -- the same places, for a text that is tested
 module _ (s : List ℕ) (at : ℕ) (h : at < length s) where
-  ahead : drop at s ≡ getD s at 0 ∷ drop (at + 1) s
-  ahead = first s at h
-
   plain-at :
       (n : ℕ)
       → (getD s at 0 ≡ nul → ⊥)
@@ -125,10 +119,10 @@ module _ (s : List ℕ) (at : ℕ) (h : at < length s) where
   plain-at n z c q =
       let b = getD s at 0 in
       let r = drop (at + 1) s in
-      let e : sequence (b ∷ r) ≡ suc n = ap sequence (sym ahead) ∙ q in
+      let e : sequence (b ∷ r) ≡ suc n = ap sequence (sym (drop-first s at h)) ∙ q in
       let k : at + 1 + n ≡ at + suc n = omega arith in (
         omega (arith, sequence-length b r n e, length-drop (at + 1) s),
-        ap firstNotPlain ahead
+        ap firstNotPlain (drop-first s at h)
             ∙ plain-sequence b r n (record { notNul = z; notCr = c; stands = e })
             ∙ rw (drop-drop n (at + 1) s, k),
       )
@@ -162,18 +156,18 @@ module _ (s : List ℕ) (at : ℕ) (h : at < length s) where
   plain-at-other other = go (sequence (drop at s)) refl
     where
       go : (m : ℕ) → sequence (drop at s) ≡ m → firstNotPlain (drop at s) ≡ 0
-      go zero q = ap firstNotPlain ahead ∙ plain-broken (getD s at 0) (drop (at + 1) s) (ap sequence (sym ahead) ∙ q)
+      go zero q = ap firstNotPlain (drop-first s at h) ∙ plain-broken (getD s at 0) (drop (at + 1) s) (ap sequence (sym (drop-first s at h)) ∙ q)
       go (suc m) q = absurd (other (suc m) (rw q))
 
   pub plain-at-stays : Stays (getD s at 0) → firstNotPlain (drop at s) ≡ 1 + firstNotPlain (drop (at + 1) s)
   plain-at-stays k =
-      plain-at 0 (k .notNul) (k .notCr) (ap sequence ahead ∙ sequence-ascii (getD s at 0) (drop (at + 1) s) (k .ascii)) .1
+      plain-at 0 (k .notNul) (k .notCr) (ap sequence (drop-first s at h) ∙ sequence-ascii (getD s at 0) (drop (at + 1) s) (k .ascii)) .1
 
   pub plain-at-nul : getD s at 0 ≡ nul → firstNotPlain (drop at s) ≡ 0
-  plain-at-nul e = ap firstNotPlain ahead ∙ plain-nul (getD s at 0) (drop (at + 1) s) e
+  plain-at-nul e = ap firstNotPlain (drop-first s at h) ∙ plain-nul (getD s at 0) (drop (at + 1) s) e
 
   pub plain-at-cr : getD s at 0 ≡ cr → firstNotPlain (drop at s) ≡ 0
-  plain-at-cr e = ap firstNotPlain ahead ∙ plain-cr (getD s at 0) (drop (at + 1) s) e
+  plain-at-cr e = ap firstNotPlain (drop-first s at h) ∙ plain-cr (getD s at 0) (drop (at + 1) s) e
 
 pub plain-at-end : (s : List ℕ) (at : ℕ) → length s ≤ at → firstNotPlain (drop at s) ≡ 0
 unfolding plainFrom

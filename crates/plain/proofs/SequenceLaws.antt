@@ -5,10 +5,10 @@ use mathlib.Core.Bool.{true, false, false≢true}
 use mathlib.Core.List.{List, [], _∷_}
 use mathlib.Core.Option.{some}
 use native.Mathlib.Omega.{arith}
-use native.Mathlib.Numerals.{add-one}
 use lib.ListN.{length, getD, drop, replicate, drop-of-length-le}
 use lib.Seq.{drop-cons, drop-drop}
-use Rattle.format.specs.Plain.{Range, _to_, within, table, following, fits, sequence}
+use Rattle.format.specs.Plain.{Range, _to_, within, table, following, fits}
+use Rattle.laws.proofs.Runs.{drop-first}
 use Rattle.laws.proofs.Sequences.{sequence-of, sequence-broken, sequence-none, begun-of, begun-none}
 use Rattle.plain.specs.declared.pieces.Piece.{Piece}
 use Rattle.plain.specs.declared.pieces.Piece.the-variants.{Keep, Replace}
@@ -40,8 +40,8 @@ module _ (s : List ℕ) (at : ℕ) (h : at < length s) (low high : ℕ) where
   abbrev Row : ℕ → Type 0
   Row len = following table (getD s at 0) ≡ rowOf len low high
 
-  here : drop at s ≡ getD s at 0 ∷ drop (at + 1) s
-  here = rw (add-one at) (drop-cons s at 0 h)
+  row-of : (len k : ℕ) → Row len → len ≡ k → Row k
+  row-of len k e z = e ∙ ap (λ n. rowOf n low high) z
 
   next : (k : ℕ) → drop 1 (drop (at + k) s) ≡ drop (at + suc k) s
   next k = let e : at + k + 1 ≡ at + suc k = omega arith in drop-drop 1 (at + k) s ∙ ap (λ i. drop i s) e
@@ -49,7 +49,7 @@ module _ (s : List ℕ) (at : ℕ) (h : at < length s) (low high : ℕ) where
   -- all ranges of the row fit, or the first n of them alone
   kept : (rs : List Range) → following table (getD s at 0) ≡ some rs → fits rs (drop (at + 1) s) ≡ length rs → Keep (suc (length rs)) ≡ runOf (drop at s)
   unfolding keptOr
-  kept rs e f = rw (here, sequence-of (getD s at 0) (drop (at + 1) s) rs e f)
+  kept rs e f = rw (drop-first s at h, sequence-of (getD s at 0) (drop (at + 1) s) rs e f)
 
   broken :
       (rs : List Range) (n : ℕ)
@@ -61,18 +61,19 @@ module _ (s : List ℕ) (at : ℕ) (h : at < length s) (low high : ℕ) where
   broken rs n e f l =
       let b = getD s at 0 in
       let t = drop (at + 1) s in
-      rw (here, sequence-broken b t rs e (λ q. omega arith), begun-of b t rs e, f)
+      rw (drop-first s at h, sequence-broken b t rs e (λ q. omega arith), begun-of b t rs e, f)
 
   pub run-none : (len : ℕ) → Row len → len ≡ 0 → Replace 1 ≡ runOf (drop at s)
   unfolding keptOr rowOf
-  run-none zero e z = rw (here, sequence-none (getD s at 0) (drop (at + 1) s) e, begun-none (getD s at 0) (drop (at + 1) s) e)
-  run-none (suc n) e z = absurd (omega arith)
+  run-none len e z =
+      let b = getD s at 0 in
+      let t = drop (at + 1) s in
+      let none = row-of len 0 e z in
+      rw (drop-first s at h, sequence-none b t none, begun-none b t none)
 
   pub run-one : (len : ℕ) → Row len → len ≡ 1 → Keep 1 ≡ runOf (drop at s)
   unfolding rowOf fits
-  run-one zero e z = absurd (omega arith)
-  run-one (suc zero) e z = kept [] e refl
-  run-one (suc (suc n)) e z = absurd (omega arith)
+  run-one len e z = kept [] (row-of len 1 e z) refl
 
   pub run-first : (len : ℕ) → Row len → 2 ≤ len → startsIn (low to high) (drop (at + 1) s) ≡ false → Replace 1 ≡ runOf (drop at s)
   unfolding rowOf
@@ -89,7 +90,7 @@ module _ (s : List ℕ) (at : ℕ) (h : at < length s) (low high : ℕ) where
 
     pub run-two : (len : ℕ) → Row len → len ≡ 2 → Keep 2 ≡ runOf (drop at s)
     unfolding rowOf fits
-    run-two len e z = kept (low to high ∷ []) (e ∙ ap (λ k. rowOf k low high) z) (after-second [])
+    run-two len e z = kept (low to high ∷ []) (row-of len 2 e z) (after-second [])
 
     pub run-second : (len : ℕ) → Row len → 3 ≤ len → startsIn (0x80 to 0xBF) (drop (at + 2) s) ≡ false → Replace 2 ≡ runOf (drop at s)
     unfolding rowOf
@@ -110,20 +111,16 @@ module _ (s : List ℕ) (at : ℕ) (h : at < length s) (low high : ℕ) where
 
       pub run-three : (len : ℕ) → Row len → len ≡ 3 → Keep 3 ≡ runOf (drop at s)
       unfolding rowOf fits
-      run-three len e z = kept (low to high ∷ 0x80 to 0xBF ∷ []) (e ∙ ap (λ k. rowOf k low high) z) (after-third [])
-
-      -- what is left: a sequence of four bytes
-      four : (len : ℕ) → Row len → len ≡ 4 → following table (getD s at 0) ≡ some (low to high ∷ 0x80 to 0xBF ∷ 0x80 to 0xBF ∷ [])
-      unfolding rowOf
-      four len e z = e ∙ ap (λ k. rowOf k low high) z
+      run-three len e z = kept (low to high ∷ 0x80 to 0xBF ∷ []) (row-of len 3 e z) (after-third [])
 
       pub run-third : (len : ℕ) → Row len → len ≡ 4 → startsIn (0x80 to 0xBF) (drop (at + 3) s) ≡ false → Replace 3 ≡ runOf (drop at s)
+      unfolding rowOf
       run-third len e z out =
-          broken (low to high ∷ 0x80 to 0xBF ∷ 0x80 to 0xBF ∷ []) 2 (four len e z)
+          broken (low to high ∷ 0x80 to 0xBF ∷ 0x80 to 0xBF ∷ []) 2 (row-of len 4 e z)
           (after-third (0x80 to 0xBF ∷ []) ∙ ap (λ n. suc (suc n)) (fits-none (0x80 to 0xBF) [] (drop (at + 3) s) out)) (omega arith)
 
       pub run-four : (len : ℕ) → Row len → len ≡ 4 → startsIn (0x80 to 0xBF) (drop (at + 3) s) ≡ true → Keep 4 ≡ runOf (drop at s)
-      unfolding fits
+      unfolding rowOf fits
       run-four len e z fourth =
-          kept (low to high ∷ 0x80 to 0xBF ∷ 0x80 to 0xBF ∷ []) (four len e z)
+          kept (low to high ∷ 0x80 to 0xBF ∷ 0x80 to 0xBF ∷ []) (row-of len 4 e z)
           (after-third (0x80 to 0xBF ∷ []) ∙ ap (λ n. suc (suc n)) (fits-more (0x80 to 0xBF) [] (drop (at + 3) s) fourth))

@@ -3,17 +3,16 @@ use Prim.Native.Nat.{ℕ, suc, _+_, _-_, _≤_, _<_}
 use mathlib.Core.Path.{_≡_, refl, sym, ap, _∙_}
 use mathlib.Core.Bool.{true, false, not, false≢true}
 use mathlib.Core.List.{List, [], _∷_}
-use native.Mathlib.Numerals.{add-one}
 use native.Mathlib.Omega.{arith}
 use lib.Dec.{eqb}
 use lib.ListN.{length, getD, take, drop}
-use lib.Seq.{take-take, length-take-le, getD-take, drop-cons}
+use lib.Seq.{take-take, length-take-le, getD-take}
 use borrow.Author.Tests.{eq-eqb, ne-eqb, lt-ltb, le-ltb}
 use Rattle.format.specs.Bytes.{fullStop, solidus, less, digit}
 use Rattle.format.specs.Texts.{run, pastRun, bytesAt}
 use Rattle.format.specs.CueText.{blank, cueTokens}
 use Rattle.laws.proofs.Tests.{by-test}
-use Rattle.laws.proofs.Runs.{RunAt, run-at, run-first, run-after, run-moves, drop-take}
+use Rattle.laws.proofs.Runs.{RunAt, drop-first, run-at, run-first, run-after, run-moves, drop-take}
 use Rattle.tokenizer.specs.Tags.{inName, tokenIs, startOf, tagOf, PartsIn, StartAt, TagAt, Marked, TokenAt, nameTo, classesTo, startIs, tagIs, stringTo, tagTo, afterTag, stepIs}
 use Rattle.tokenizer.specs.declared.Token.{Token}
 use Rattle.tokenizer.specs.declared.Token.the-variants as Token
@@ -108,8 +107,8 @@ module _ (s : List ℕ) (from to : ℕ) (h : from < to) (l : to ≤ length s) wh
   pub part-first : bytesAt s from to ≡ getD s from 0 ∷ bytesAt s (from + 1) to
   unfolding bytesAt
   part-first =
-      let e : to - from ≡ suc (to - suc from) = omega arith in
-      rw (e, drop-cons s from 0 (omega arith), add-one from)
+      let e : to - from ≡ suc (to - (from + 1)) = omega arith in
+      rw (e, drop-first s from (omega arith))
 
   pub end-at : getD s from 0 ≡ solidus → TagAt s from to (Token.End (record { from = from + 1; to = to }))
   unfolding tokenIs tagOf
@@ -171,9 +170,6 @@ marks s (Token.Timestamp p) at to next h k = tt
 
 -- the token that begins at a place
 module _ (s : List ℕ) (at : ℕ) (h : at < length s) where
-  opened : drop at s ≡ getD s at 0 ∷ drop (at + 1) s
-  opened = rw (add-one at) (drop-cons s at 0 h)
-
   pub string-at :
       (to : ℕ)
       → (getD s at 0 ≡ less → ⊥)
@@ -183,7 +179,7 @@ module _ (s : List ℕ) (at : ℕ) (h : at < length s) where
   string-at to n e =
       let r = run-at notLess s at to (omega arith) e in
       let f = ne-eqb (getD s at 0) less n in
-      let first = rw (← opened) at (string-token (getD s at 0) (drop (at + 1) s) f) in
+      let first = rw (← (drop-first s at h)) at (string-token (getD s at 0) (drop (at + 1) s) f) in
       let moves = run-moves notLess s at to r h (ap not f) in
       record {
         moves = moves;
@@ -199,7 +195,7 @@ module _ (s : List ℕ) (at : ℕ) (h : at < length s) where
 
     tag-first : drop 1 (drop to s) ≡ drop next s → cueTokens (drop at s) ≡ tagOf (bytesAt s (at + 1) to) ∷ cueTokens (drop next s)
     unfolding bytesAt
-    tag-first d = rw (opened, y) (tag-token (drop (at + 1) s) ∙ rw (run-to .bytes, run-to .past, d))
+    tag-first d = rw (drop-first s at h, y) (tag-token (drop (at + 1) s) ∙ rw (run-to .bytes, run-to .past, d))
 
     pub tag-bounds : (at + 1 ≤ to) × (to ≤ length s)
     tag-bounds = (run-to .from, run-to .inside)
