@@ -1,7 +1,7 @@
 -- What stands at a place of a slice, from its first byte's row: what each test of the code decides.
 use Prim.Native.Nat.{ℕ, zero, suc, _+_, _≤_, _<_}
 use mathlib.Core.Path.{_≡_, refl, ap, _∙_}
-use mathlib.Core.Bool.{true, false, false≢true}
+use mathlib.Core.Bool.{Bool, true, false, cond, false≢true}
 use mathlib.Core.List.{List, [], _∷_}
 use mathlib.Core.Option.{some}
 use native.Mathlib.Omega.{arith}
@@ -113,14 +113,12 @@ module _ (s : List ℕ) (at : ℕ) (h : at < length s) (low high : ℕ) where
       unfolding rowOf fits
       run-three len e z = kept (low to high ∷ 0x80 to 0xBF ∷ []) (row-of len 3 e z) (after-third [])
 
-      pub run-third : (len : ℕ) → Row len → len ≡ 4 → startsIn (0x80 to 0xBF) (drop (at + 3) s) ≡ false → Replace 3 ≡ runOf (drop at s)
-      unfolding rowOf
-      run-third len e z out =
-          broken (low to high ∷ 0x80 to 0xBF ∷ 0x80 to 0xBF ∷ []) 2 (row-of len 4 e z)
-          (after-third (0x80 to 0xBF ∷ []) ∙ ap (λ n. suc (suc n)) (fits-none (0x80 to 0xBF) [] (drop (at + 3) s) out)) (omega arith)
-
-      pub run-four : (len : ℕ) → Row len → len ≡ 4 → startsIn (0x80 to 0xBF) (drop (at + 3) s) ≡ true → Keep 4 ≡ runOf (drop at s)
+      -- the fourth byte can follow or not
+      pub run-four : (len : ℕ) → Row len → len ≡ 4 → (t : Bool) → startsIn (0x80 to 0xBF) (drop (at + 3) s) ≡ t → cond t (Keep 4) (Replace 3) ≡ runOf (drop at s)
       unfolding rowOf fits
-      run-four len e z fourth =
+      run-four len e z true fourth =
           kept (low to high ∷ 0x80 to 0xBF ∷ 0x80 to 0xBF ∷ []) (row-of len 4 e z)
           (after-third (0x80 to 0xBF ∷ []) ∙ ap (λ n. suc (suc n)) (fits-more (0x80 to 0xBF) [] (drop (at + 3) s) fourth))
+      run-four len e z false out =
+          broken (low to high ∷ 0x80 to 0xBF ∷ 0x80 to 0xBF ∷ []) 2 (row-of len 4 e z)
+          (after-third (0x80 to 0xBF ∷ []) ∙ ap (λ n. suc (suc n)) (fits-none (0x80 to 0xBF) [] (drop (at + 3) s) out)) (omega arith)

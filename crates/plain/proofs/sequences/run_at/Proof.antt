@@ -1,14 +1,16 @@
 -- `plain::sequences::run_at` meets its contract: each way out is a law of the first byte's row.
 use mathlib.Core.Path.{_≡_, sym, _∙_}
-use mathlib.Core.Bool.{true}
+use mathlib.Core.Bool.{Bool, true, false, cond}
 use Prim.Native.Nat.{_+_}
 use native.Mathlib.Omega.{arith}
 use lib.ListN.{drop}
 use borrow.Author.Needs.{needs}
 use borrow.Author.Tests.{not-true, not-false}
 use Rattle.format.specs.Plain.{_to_}
+use Rattle.plain.specs.declared.pieces.Piece.the-variants.{Keep, Replace}
 use Rattle.plain.specs.Lead.{startsIn}
-use Rattle.plain.proofs.SequenceLaws.{run-none, run-one, run-first, run-two, run-second, run-three, run-third, run-four}
+use Rattle.plain.specs.Pieces.{runOf}
+use Rattle.plain.proofs.SequenceLaws.{run-none, run-one, run-first, run-two, run-second, run-three, run-four}
 use Rattle.plain.proofs.sequences.run_at.Statement.{statement}
 use Rattle.plain.proofs.sequences.run_at.Tie as tie
 
@@ -96,27 +98,27 @@ returns-6 c =
 holds-requires-3 : tie.Need-holds-requires-3
 holds-requires-3 c κs = search needs
 
-returns-7 : tie.Need-returns-7
-returns-7 c =
-    let more = c .before .before .before .before in
+-- both ways out after the last test
+ending :
+    (c : tie.After-holds3) (t : Bool)
+    → c .holds3 .result ≡ t
+    → let args = c .before .before .before .before .before .before .before .before .before .before .before .before .before .before .before .before .args in
+    cond t (Keep 4) (Replace 3) ≡ runOf (drop (args .at) (args .s .now))
+ending c t e =
+    let more = c .before .before .before in
     let known = more .before .before .before .before in
     let got = known .before .before .before .before .before .before in
     let args = got .before .before .before .args in
     let lead = got .lead-of .result in
     let row = got .lead-of .ensures .1 in
-    run-third (args .s .now) (args .at) (omega arith) (lead .low) (lead .high) (second known) (third more) (lead .len) row (omega arith)
-    (sym (c .before .holds3 .ensures) ∙ not-true (c .before .holds3 .result) (c .if7 .taken))
+    run-four (args .s .now) (args .at) (omega arith) (lead .low) (lead .high) (second known) (third more) (lead .len) row (omega arith) t
+    (sym (c .holds3 .ensures) ∙ e)
+
+returns-7 : tie.Need-returns-7
+returns-7 c = ending (c .before) false (not-true (c .before .holds3 .result) (c .if7 .taken))
 
 returns-8 : tie.Need-returns-8
-returns-8 c =
-    let more = c .before .before .before .before in
-    let known = more .before .before .before .before in
-    let got = known .before .before .before .before .before .before in
-    let args = got .before .before .before .args in
-    let lead = got .lead-of .result in
-    let row = got .lead-of .ensures .1 in
-    run-four (args .s .now) (args .at) (omega arith) (lead .low) (lead .high) (second known) (third more) (lead .len) row (omega arith)
-    (sym (c .before .holds3 .ensures) ∙ not-false (c .before .holds3 .result) (c .if7 .left))
+returns-8 c = ending (c .before) true (not-false (c .before .holds3 .result) (c .if7 .left))
 
 pub run-at-spec : {M : Type 1} → statement M
 run-at-spec =
