@@ -6,14 +6,17 @@ use format::FileReading;
 use format::PartAnswer;
 use format::Plainness;
 use format::Reading;
+use format::RegionFound;
 use format::Replacing;
 use format::Rewriting;
 use format::Tree;
 use format::Writing;
+use format::rows::RegionIndex;
 ghost use mathlib.Core.Path.{_≡_};
 ghost use mathlib.Core.List.{[], _∷_};
 ghost use Rattle.format.specs.Answers.{refusalNumber, returned, withValues};
 ghost use Rattle.format.specs.Converting.{convertedIs, plainnessIs};
+ghost use Rattle.format.specs.LookingUp.{foundIs};
 ghost use Rattle.format.specs.Parts.{partAnswerIs};
 ghost use Rattle.format.specs.Reading.{readingIs, fileReadingIs};
 ghost use Rattle.format.specs.Replacing.{replacingIs};
@@ -81,6 +84,25 @@ pub fn plainness(answer: Plainness, values: &mut [u64; 8]) -> u64
         Plainness::NotPlainAt(i) => {
             put_1(values, i);
             3
+        }
+    }
+}
+
+// Nothing is refused: a region is found, or none is.
+pub fn region_found(answer: RegionFound, values: &mut [u64; 8]) -> u64
+    ensures number { λ r. ⌜ r ≡ refusalNumber (foundIs answer) ⌝ }
+    ensures values { λ _. ⌜ now (values .exit) ≡ withValues 0 (returned (foundIs answer)) (now (values .entry)) ⌝ }
+{
+    let index = answer.index;
+    let seen = answer.seen;
+    match index {
+        RegionIndex::None => {
+            put_3(values, 0, 0, seen);
+            0
+        }
+        RegionIndex::At(i) => {
+            put_3(values, 1, i as usize, seen);
+            0
         }
     }
 }

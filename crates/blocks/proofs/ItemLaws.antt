@@ -6,7 +6,7 @@ use mathlib.Core.List.{List, [], _∷_}
 use mathlib.Core.Option.{Option, none, some}
 use native.Mathlib.Omega.{arith}
 use lib.Dec.{eqb, ltb}
-use lib.ListN.{length, take, drop, length-drop, length-take}
+use lib.ListN.{length, take, drop, length-drop}
 use lib.Seq.{length-take-le}
 use borrow.Author.Tests.{eqb-true, eqb-false, eq-eqb, ne-eqb, ltb-true, ltb-false}
 use Rattle.format.specs.Bytes.{white}
@@ -18,7 +18,6 @@ use Rattle.format.specs.TimingLines.{Timing}
 use Rattle.format.specs.Lists.{regionOf, isWord}
 use Rattle.laws.proofs.Tests.{by-test}
 use Rattle.laws.proofs.Runs.{run-length, all-run, run-not-all}
-use Rattle.laws.proofs.Standing.{Stands}
 use Rattle.values.specs.Tokens.{spanTo, partOf}
 use Rattle.values.proofs.NumberLaws.{is-empty-not}
 use Rattle.timing.specs.TimingLines.{timingLineIs, lineKind}
@@ -94,20 +93,6 @@ pub some-bytes : (x : List ℕ) → isEmpty x ≡ false → 0 < length x
 unfolding isEmpty
 some-bytes [] e = absurd (true≢false e)
 some-bytes (b ∷ x) e = omega arith
-
--- a part that stands in the text, by the places that the code holds of it
-pub part-back : (s : List ℕ) (p : Part) → Stands s p → partOf s (spanIs p .from) (spanIs p .to) .bytes ≡ p .bytes
-unfolding spanIs
-part-back s p h =
-    by-test (isEmpty (p .bytes))
-    (λ y. let a : min 0 (length s) ≡ 0 = omega arith in rw (y, a) (sym (no-bytes (p .bytes) y)))
-    (λ n. let x = p .bytes in
-    let some = some-bytes x n in
-    let fits : p .place + length x ≤ length s = omega (arith, ap length h, length-take (length x) (drop (p .place) s), length-drop (p .place) s) in
-    let a : min (p .place + length x) (length s) ≡ p .place + length x = omega arith in
-    let b : min (p .place) (p .place + length x) ≡ p .place = omega arith in
-    let c : p .place + length x - p .place ≡ length x = omega arith in
-    rw (n, a, b, c) h)
 
 -- a timed block is of the kind of its line
 pub kind-timed : (id text : Span) (l : TimingLine) → kindIs (timedIs id text l) ≡ timedKind (lineKind l)

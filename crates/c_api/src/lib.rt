@@ -25,6 +25,7 @@ ghost use Rattle.format.specs.Contents.{contentsOfRows};
 ghost use Rattle.format.specs.Writing.{writing, writtenRoom, ReadBack};
 ghost use Rattle.format.specs.Rewriting.{lengths, readingIn, rewriting, rewrittenRoom};
 ghost use Rattle.format.specs.Replacing.{replacing, replacedRoom, Replaced};
+ghost use Rattle.format.specs.LookingUp.{lookingUp};
 ghost use Rattle.format.specs.Parts.{partAnswerIs, asking};
 ghost use Rattle.c_api.specs.Lent.{lentWords, placeTold, entryAt};
 
@@ -84,6 +85,21 @@ pub extern "C" fn spatz_read_file(
     ensures values { λ _. ⌜ now (values .exit) ≡ withValues 0 (returned (fileReading (now (raw .entry)) (length (now (text .entry))) (length (now (cues .entry))) (length (now (regions .entry))) (length (now (styles .entry))))) (now (values .entry)) ⌝ }
 {
     answers::file_reading(reader::read_file(raw, text, cues, regions, styles), values)
+}
+
+// The region of this name among rows over a text, looked for from the last to the first; the name may stand in another text. Nothing is refused.
+// Values: 1 and the region's index, or 0 and 0 where none has the name; and how many rows were looked at.
+#[no_mangle]
+pub extern "C" fn spatz_find_region(
+    text: &[u8],
+    regions: &[RegionRow],
+    name: &[u8],
+    values: &mut [u64; 8],
+) -> u64
+    ensures number { λ r. ⌜ r ≡ refusalNumber (lookingUp (now (text .entry)) (now (regions .entry)) (now (name .entry))) ⌝ }
+    ensures values { λ _. ⌜ now (values .exit) ≡ withValues 0 (returned (lookingUp (now (text .entry)) (now (regions .entry)) (now (name .entry)))) (now (values .entry)) ⌝ }
+{
+    answers::region_found(lookup::find_region(text, regions, name), values)
 }
 
 // The nodes of one cue's text go to the table, their strings to `room`. Values: rows and bytes used; for 2 the bytes, for 6 the rows needed.

@@ -3,7 +3,7 @@
 use format::Mending;
 use format::Replacing;
 use libc::STDOUT_FILENO;
-use writable::part;
+use values::bytes::part;
 
 fn print_answer(answer: Replacing, out: &[u8]) {
     match answer {

@@ -5,7 +5,7 @@ use format::rows::CueRow;
 use format::rows::RegionRow;
 use format::rows::StyleRow;
 use libc::STDOUT_FILENO;
-use writable::part;
+use values::bytes::part;
 
 // Prints the written form of what an open file reads as, or the line of the refusal. More input than `raw` holds is refusal 1.
 pub fn rewrite_file(

@@ -6,6 +6,8 @@ pub mod regions;
 pub mod rows;
 pub mod settings;
 
+use rows::RegionIndex;
+
 // The greatest length in bytes of a raw file, read or made (refusal 1).
 pub const MAX_FILE: usize = 16_777_216;
 
@@ -51,6 +53,14 @@ pub enum Reading {
         regions: usize,
         styles: usize,
     },
+}
+
+// What looking up a region by its name answers.
+pub struct RegionFound {
+    // The last region of that name.
+    pub index: RegionIndex,
+    // How many records were looked at, from the last on.
+    pub seen: usize,
 }
 
 // What converting a raw file and reading its text in one call answers.

@@ -12,7 +12,7 @@ use output::bytes;
 use output::number;
 use output::percentage;
 use output::time;
-use writable::part;
+use values::bytes::part;
 ghost use mathlib.Core.Path.{_≡_};
 ghost use mathlib.Core.Bool.{cond};
 ghost use mathlib.Core.List.{[], _∷_, _++_, map};

@@ -19,5 +19,6 @@ pub mod Changes
 pub mod Standing
 pub mod Contents
 pub mod Names
+pub mod LookingUp
 pub mod Rows
 pub mod Answers

@@ -1,52 +1,61 @@
-// The look-up of a region by its identifier, among rows of the lent table. Any rows are taken, over any text.
+// The look-up of a region by its name, among rows of the lent table. Any rows are taken, over any text, and the name may stand in another.
+use format::RegionFound;
 use format::rows::RegionIndex;
 use format::rows::RegionRow;
 use format::settings::Span;
+use values::bytes::part;
 use values::bytes::same_bytes;
 ghost use mathlib.Core.Path.{_≡_};
-ghost use mathlib.Core.List.{map};
-ghost use Prim.Native.Nat.{_-_, _<_};
-ghost use lib.ListN.{take};
-ghost use Rattle.format.specs.Texts.{same};
-ghost use Rattle.format.specs.RegionSettings.{lastNamed};
-ghost use Rattle.format.specs.Rows.{indexIs, regionEntry};
-ghost use Rattle.values.specs.Tokens.{partOf};
+ghost use mathlib.Core.Bool.{false};
+ghost use Rattle.format.specs.Texts.{same, bytesAt};
+ghost use Rattle.format.specs.Writable.{namesOf};
+ghost use Rattle.format.specs.LookingUp.{lookUp, Last};
 
-// Is the identifier of a region's row this name.
-fn is_named(text: &[u8], row: RegionRow, name: &[u8]) -> bool
-    ensures { λ r. ⌜ r ≡ same (partOf (now (text .entry)) (regionEntry row .id .from) (regionEntry row .id .to) .bytes) (now (name .entry)) ⌝ }
-{
-    let id = rows::regions::id(row);
-    let end = values::least(id.to, text.len());
-    let start = values::least(id.from, end);
-    same_bytes(&text[start..end], name)
-}
+pub mod inner;
 
-// The last of the first `count` rows whose region has this name, a part of the text, as its identifier.
-pub fn find_region(text: &[u8], regions: &[RegionRow], count: usize, name: Span) -> RegionIndex
-    ensures { λ r. ⌜ r ≡ indexIs (lastNamed 0 (partOf (now (text .entry)) (name .from) (name .to) .bytes) (map (λ row. partOf (now (text .entry)) (regionEntry row .id .from) (regionEntry row .id .to) .bytes) (take count (now (regions .entry))))) ⌝ }
+// Can two texts be the same, by their lengths and last bytes. Most names of one file differ there, and many begin alike.
+fn ends_alike(a: &[u8], b: &[u8]) -> bool
+    ensures { λ r. ⌜ (r ≡ false → same (now (a .entry)) (now (b .entry)) ≡ false) ⌝ }
 {
-    let end = values::least(name.to, text.len());
-    let start = values::least(name.from, end);
-    let wanted = &text[start..end];
-    let rows = values::least(count, regions.len());
-    let mut k = 0;
-    while k < rows {
-        let i = from_end(rows, k);
-        let row = regions[i];
-        if is_named(text, row, wanted) {
-            return RegionIndex::At(i as u64);
-        }
-        k += 1;
+    let n = a.len();
+    if n != b.len() {
+        return false;
     }
-    RegionIndex::None
+    if n == 0 {
+        return true;
+    }
+    a[n - 1] == b[n - 1]
 }
 
-// The index of a row of `count`, counted from the last one.
-fn from_end(count: usize, k: usize) -> usize
-    requires { ⌜ k < count ⌝ }
-    ensures { λ r. ⌜ r ≡ count - 1 - k ⌝ }
+// Is the part of a text at these places this name.
+pub fn is_named(text: &[u8], id: Span, name: &[u8]) -> bool
+    ensures { λ r. ⌜ r ≡ same (bytesAt (now (text .entry)) (id .from) (id .to)) (now (name .entry)) ⌝ }
 {
-    let last = count - 1;
-    last - k
+    let own = part(text, id.from, id.to);
+    if !ends_alike(own, name) {
+        return false;
+    }
+    same_bytes(own, name)
+}
+
+// The region of this name, looked for from the last row to the first: the later of two with one identifier counts.
+pub fn find_region(text: &[u8], regions: &[RegionRow], name: &[u8]) -> RegionFound
+    ensures found { λ r. ⌜ r ≡ lookUp (now (name .entry)) (namesOf (now (text .entry)) (now (regions .entry))) ⌝ }
+    ensures last { λ r. ⌜ Last (now (name .entry)) (namesOf (now (text .entry)) (now (regions .entry))) (r .index) (r .seen) ⌝ }
+{
+    let count = regions.len();
+    let mut i = count;
+    while 0 < i {
+        i -= 1;
+        if is_named(text, rows::regions::id(regions[i]), name) {
+            return RegionFound {
+                index: RegionIndex::At(i as u64),
+                seen: count - i,
+            };
+        }
+    }
+    RegionFound {
+        index: RegionIndex::None,
+        seen: count,
+    }
 }

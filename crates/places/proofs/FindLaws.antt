@@ -28,7 +28,7 @@ use Rattle.blocks.specs.declared.items.Item as Read
 use Rattle.blocks.specs.declared.items.Item.the-variants as Made
 use Rattle.blocks.specs.Collecting.{lineEnds}
 use Rattle.blocks.specs.Items.{meaningAt, BlockAt, NextAt, itemIs}
-use Rattle.blocks.proofs.ItemLaws.{part-back}
+use Rattle.laws.proofs.Rows.{stands-bytes}
 use Rattle.blocks.proofs.WalkLaws.{fresh, items-next, moves}
 use Rattle.places.specs.declared.inner.finding.Found.{Found}
 use Rattle.places.specs.Places.{OwnLines}
@@ -140,7 +140,7 @@ module _
           counted = h .counted;
           own = h .own;
           none = h .none;
-          named = rw (part-back s (r .id) (h .stand .0)) (or-assoc (f .named) (same (r .id .bytes) name) _ ∙ h .named);
+          named = rw (stands-bytes s (r .id) (h .stand .0)) (or-assoc (f .named) (same (r .id .bytes) name) _ ∙ h .named);
         })
 
 module _ (s : List ℕ) (number : ℕ) (name : List ℕ) (lines : Span) (f : Found) where

@@ -5,14 +5,13 @@ use mathlib.Core.Bool.{Bool, true, false, cond, _||_}
 use mathlib.Core.List.{List}
 use lib.Dec.{eqb}
 use lib.ListN.{length}
-use Rattle.format.specs.Texts.{same}
+use Rattle.format.specs.Texts.{same, bytesAt}
 use Rattle.format.specs.CueSettings.{noSpan}
 use Rattle.format.specs.RegionSettings.{lastNamed}
 use Rattle.format.specs.Blocks.{hasSignature}
 use Rattle.format.specs.Lists.{items, lists, anyOver}
 use Rattle.format.specs.Replacing.{isThere, regionNames}
 use Rattle.format.specs.declared.settings.Span.{Span}
-use Rattle.values.specs.Tokens.{partOf}
 use Rattle.blocks.specs.declared.items.Item.{Item}
 use Rattle.blocks.specs.declared.items.Item.the-variants as Item
 use Rattle.blocks.specs.declared.items.ItemKind.{ItemKind}
@@ -25,7 +24,7 @@ use Rattle.places.specs.declared.inner.finding.Surveyed.the-variants as 
 
 -- is the part of a text at these places this name
 abbrev pub hasName : List ℕ → Span → List ℕ → Bool
-hasName s id name = same (partOf s (id .from) (id .to) .bytes) name
+hasName s id name = same (bytesAt s (id .from) (id .to)) name
 
 -- is the item a region of this name
 abbrev pub itemNamed : List ℕ → List ℕ → Item → Bool

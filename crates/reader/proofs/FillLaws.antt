@@ -2,56 +2,48 @@
 use Prim.Native.Nat.{ℕ, _+_, _≤_}
 use mathlib.Core.Path.{_≡_, refl, sym, ap, subst, _∙_}
 use mathlib.Core.Bool.{Bool, true, false, _||_}
-use mathlib.Core.List.{List, [], _∷_, map}
+use mathlib.Core.List.{List, [], _∷_}
 use native.Mathlib.Omega.{arith}
-use lib.Dec.{eqb, ltb}
+use lib.Dec.{ltb}
 use lib.ListN.{length, length-map, take, set}
 use lib.Seq.{take-length}
-use borrow.Author.Tests.{ne-eqb}
-use Rattle.format.specs.Texts.{Part, isEmpty}
+use Rattle.format.specs.Texts.{Part}
 use Rattle.format.specs.CueSettings.{spanIs}
 use Rattle.format.specs.RegionSettings.{RegionValues, regionIs}
 use Rattle.format.specs.Blocks.{blocks}
 use Rattle.format.specs.Answers.{placed}
 use Rattle.format.specs.Lists.{Cue, Item, nothing, cue, style, region, isCue, itemsFrom, items, into, listed, lists, itemOver, anyOver}
-use Rattle.format.specs.Rows.{regionEntry, cueWords, regionWords, styleWords, ids, indexIs, regionFor, entryIs, cueRows, regionRows, styleRows}
-use Rattle.laws.proofs.Tests.{by-test, or-true, or-first, or-second}
+use Rattle.format.specs.Contents.{regionOfEntry}
+use Rattle.format.specs.Writable.{namesOf}
+use Rattle.format.specs.Replacing.{regionAsked}
+use Rattle.format.specs.Rows.{cueWords, regionWords, styleWords, ids, indexIs, regionFor, entryIs, cueRows, regionRows, styleRows}
+use Rattle.laws.proofs.Tests.{or-true, or-first, or-second}
 use Rattle.laws.proofs.Filling.{Fills, fills-start, fills-room, fills-some, fills-next, fills-all, fills-end, fills-front}
 use Rattle.laws.proofs.Standing.{Stands, All, CueStands, ItemStands, items-stand, blocks-follow, lists-stand}
 use Rattle.laws.proofs.Lists.{no-regions-after}
-use Rattle.values.specs.Tokens.{partOf}
+use Rattle.laws.proofs.Rows.{stands-bytes}
+use Rattle.lookup.specs.Known.{askedAt}
 use Rattle.blocks.specs.declared.collecting.Stop.{Stop}
 use Rattle.blocks.specs.Items.{meaningAt, NextAt, cueIs, itemIs}
 use Rattle.reader.specs.declared.counting.Counts.{Counts}
 use Rattle.reader.specs.Counting.{withItem}
-use Rattle.reader.specs.Filling.{regionAt, entryOf, cuesWith, regionsWith, stylesWith, RoomFor}
-use Rattle.blocks.proofs.ItemLaws.{some-bytes, part-back}
+use Rattle.reader.specs.Filling.{entryOf, cuesWith, regionsWith, stylesWith, RoomFor}
 use Rattle.blocks.proofs.WalkLaws.{fresh, items-next, moves}
 use Rattle.reader.proofs.CountLaws.{seen-next, with-most}
 
-span-empty : (p : Part) → eqb (spanIs p .from) (spanIs p .to) ≡ isEmpty (p .bytes)
-unfolding spanIs
-span-empty p =
-    by-test (isEmpty (p .bytes))
-    (λ y. rw y refl)
-    (λ n. rw n (ne-eqb (p .place) (p .place + length (p .bytes)) (λ e. absurd (omega (arith, some-bytes (p .bytes) n)))))
-
-rows-ids : (s : List ℕ) (rs : List RegionValues) → All (λ r. Stands s (r .id)) rs → map (λ row. partOf s (regionEntry row .id .from) (regionEntry row .id .to) .bytes) (regionRows rs) ≡ ids rs
-unfolding regionRows ids
+rows-ids : (s : List ℕ) (rs : List RegionValues) → All (λ r. Stands s (r .id)) rs → namesOf s (regionRows rs) ≡ ids rs
+unfolding regionRows ids regionOfEntry
 rows-ids s [] h = refl
-rows-ids s (r ∷ rs) h = let a = part-back s (r .id) (h .0) in let b = rows-ids s rs (h .1) in rw (a, b)
+rows-ids s (r ∷ rs) h = let a = stands-bytes s (r .id) (h .0) in let b = rows-ids s rs (h .1) in rw (a, b)
 
 -- the region that a cue asks for, looked up in the rows of all regions
 region-found :
     (s : List ℕ) (rs : List RegionValues) (name : Part)
     → All (λ r. Stands s (r .id)) rs
     → Stands s name
-    → regionAt s (regionRows rs) (spanIs name) ≡ indexIs (regionFor rs name)
-unfolding regionFor
-region-found s rs name all h =
-    by-test (isEmpty (name .bytes))
-    (λ y. rw (span-empty name, y))
-    (λ n. rw (span-empty name, n, part-back s name h, rows-ids s rs all))
+    → askedAt s (regionRows rs) (spanIs name) ≡ indexIs (regionFor rs name)
+unfolding regionFor regionAsked
+region-found s rs name all h = rw (stands-bytes s name h, rows-ids s rs all)
 
 entry-is :
     (s : List ℕ) (rs : List RegionValues) (c : Cue)

@@ -1,27 +1,14 @@
 -- What storing one item makes of the tables. `proofs/FillLaws.antt` proves that all items give the rows that `format` defines.
 use Prim.Native.Nat.{ℕ, _≤_, _<_}
-use mathlib.Core.Bool.{cond}
-use mathlib.Core.List.{List, map}
-use lib.Dec.{eqb}
+use mathlib.Core.List.{List}
 use lib.ListN.{take, set}
-use Rattle.format.specs.RegionSettings.{lastNamed}
-use Rattle.format.specs.Rows.{regionEntry, cueWords, regionWords, styleWords, indexIs}
-use Rattle.format.specs.declared.settings.Span.{Span}
-use Rattle.format.specs.declared.rows.RegionIndex.{RegionIndex}
-use Rattle.format.specs.declared.rows.RegionIndex.the-variants as RegionIndex
+use Rattle.format.specs.Rows.{cueWords, regionWords, styleWords}
 use Rattle.format.specs.declared.rows.CueEntry.{CueEntry}
-use Rattle.values.specs.Tokens.{partOf}
+use Rattle.lookup.specs.Known.{askedAt}
 use Rattle.blocks.specs.declared.items.CueRead.{CueRead}
 use Rattle.blocks.specs.declared.items.Item.{Item}
 use Rattle.blocks.specs.declared.items.Item.the-variants as Item
 use Rattle.reader.specs.declared.counting.Counts.{Counts}
-
--- the region of this name among these rows; an empty name is none
-abbrev pub regionAt : List ℕ → List (List ℕ) → Span → RegionIndex
-regionAt s rows name =
-    cond (eqb (name .from) (name .to)) RegionIndex.None
-    (indexIs
-    (lastNamed 0 (partOf s (name .from) (name .to) .bytes) (map (λ row. partOf s (regionEntry row .id .from) (regionEntry row .id .to) .bytes) rows)))
 
 abbrev pub entryOf : List ℕ → List (List ℕ) → CueRead → CueEntry
 entryOf s rows c =
@@ -31,7 +18,7 @@ entryOf s rows c =
       end = c .end;
       text = c .text;
       settings = c .settings;
-      region = regionAt s rows (c .region);
+      region = askedAt s rows (c .region);
     }
 
 -- the tables after one item, n being the counts before it

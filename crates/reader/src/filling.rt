@@ -8,10 +8,11 @@ use blocks::items::Item;
 use blocks::items::ItemKind;
 use format::rows::CueEntry;
 use format::rows::CueRow;
-use format::rows::RegionIndex;
 use format::rows::RegionRow;
 use format::rows::StyleRow;
-use format::settings::Span;
+use lookup::inner::KNOWN_ROWS;
+use lookup::inner::KNOWN_WORDS;
+use lookup::inner::KnownRow;
 ghost use mathlib.Core.Path.{_≡_};
 ghost use mathlib.Core.Bool.{false};
 ghost use Prim.Native.Nat.{_≤_};
@@ -24,22 +25,16 @@ ghost use Rattle.format.specs.Rows.{cueRows, regionRows, styleRows};
 ghost use Rattle.format.specs.Answers.{placed};
 ghost use Rattle.blocks.specs.Collecting.{linesFrom};
 ghost use Rattle.blocks.specs.Items.{meaningAt, PlacesIn, itemIs, kindIs};
-ghost use Rattle.reader.specs.Filling.{regionAt, entryOf, cuesWith, regionsWith, stylesWith, RoomFor};
+ghost use Rattle.lookup.specs.Known.{AllRight};
+ghost use Rattle.reader.specs.Counting.{withItem};
+ghost use Rattle.reader.specs.Filling.{entryOf, cuesWith, regionsWith, stylesWith, RoomFor};
 
-// The region of this name among the first `count` rows.
-fn region_of(text: &[u8], name: Span, regions: &[RegionRow], count: usize) -> RegionIndex
-    requires { ⌜ count ≤ length (now regions) ⌝ }
-    ensures { λ r. ⌜ r ≡ regionAt (now (text .entry)) (take count (now (regions .entry))) name ⌝ }
-{
-    if name.from == name.to {
-        return RegionIndex::None;
-    }
-    lookup::find_region(text, regions, count, name)
-}
-
-fn entry(text: &[u8], cue: CueRead, regions: &[RegionRow], count: usize) -> CueEntry
-    requires { ⌜ count ≤ length (now regions) ⌝ }
-    ensures { λ r. ⌜ r ≡ entryOf (now (text .entry)) (take count (now (regions .entry))) cue ⌝ }
+// The cue as it stands in the table, among these regions.
+fn entry(text: &[u8], cue: CueRead, regions: &[RegionRow], known: &mut [KnownRow]) -> CueEntry
+    requires { ⌜ length (now known) ≡ 256 ⌝ }
+    requires { ⌜ AllRight (now text) (now regions) (now known) ⌝ }
+    ensures is { λ r. ⌜ r ≡ entryOf (now (text .entry)) (now (regions .entry)) cue ⌝ }
+    ensures known { λ _. ⌜ AllRight (now (text .entry)) (now (regions .entry)) (now (known .exit)) ⌝ }
 {
     let id = cue.id;
     let part = cue.text;
@@ -51,7 +46,7 @@ fn entry(text: &[u8], cue: CueRead, regions: &[RegionRow], count: usize) -> CueE
         end: cue.end,
         text: part,
         settings,
-        region: region_of(text, name, regions, count),
+        region: lookup::inner::region_asked(text, regions, name, known),
     }
 }
 
@@ -61,13 +56,17 @@ fn put(
     from: usize,
     stop: Stop,
     n: Counts,
+    known: &mut [KnownRow],
     cues: &mut [CueRow],
     regions: &mut [RegionRow],
     styles: &mut [StyleRow],
 ) -> ItemKind
+    requires { ⌜ length (now known) ≡ 256 ⌝ }
+    requires { ⌜ AllRight (now text) (take (n .regions) (now regions)) (now known) ⌝ }
     requires { ⌜ PlacesIn (now text) from stop ⌝ }
     requires { ⌜ RoomFor (itemIs (meaningAt (ltb 0 (n .cues)) (now text) from stop)) n (length (now cues)) (length (now regions)) (length (now styles)) ⌝ }
     ensures kind { λ r. ⌜ r ≡ kindIs (itemIs (meaningAt (ltb 0 (n .cues)) (now (text .entry)) from stop)) ⌝ }
+    ensures known { λ _. ⌜ AllRight (now (text .entry)) (take (withItem (itemIs (meaningAt (ltb 0 (n .cues)) (now (text .entry)) from stop)) n .regions) (now (regions .exit))) (now (known .exit)) ⌝ }
     ensures cues { λ _. ⌜ now (cues .exit) ≡ cuesWith (now (text .entry)) (itemIs (meaningAt (ltb 0 (n .cues)) (now (text .entry)) from stop)) n (now (regions .entry)) (now (cues .entry)) ⌝ }
     ensures regions { λ _. ⌜ now (regions .exit) ≡ regionsWith (itemIs (meaningAt (ltb 0 (n .cues)) (now (text .entry)) from stop)) n (now (regions .entry)) ⌝ }
     ensures styles { λ _. ⌜ now (styles .exit) ≡ stylesWith (itemIs (meaningAt (ltb 0 (n .cues)) (now (text .entry)) from stop)) n (now (styles .entry)) ⌝ }
@@ -80,7 +79,7 @@ fn put(
         Item::Over => ItemKind::Over,
         Item::Cue(cue) => {
             let at = n.cues;
-            cues[at] = rows::cue_row(entry(text, cue, regions, n.regions));
+            cues[at] = rows::cue_row(entry(text, cue, &regions[..n.regions], known));
             ItemKind::Cue
         }
         Item::Style(part) => {
@@ -112,12 +111,13 @@ pub(crate) fn fill(
 {
     let mut at = from;
     let mut n = Counts::NONE;
+    let mut known = [[0; KNOWN_WORDS]; KNOWN_ROWS];
     loop {
         let next = blocks::next_block(text, at);
         let Next::Block { from: begin, stop } = next else {
             return;
         };
-        let kind = put(text, begin, stop, n, cues, regions, styles);
+        let kind = put(text, begin, stop, n, &mut known, cues, regions, styles);
         let why = stop.why;
         if is_last(why) {
             return;

@@ -10,7 +10,7 @@ use places::inner::finding::Found;
 use places::inner::finding::Surveyed;
 use places::inner::testing;
 use places::lines;
-use writable::part;
+use values::bytes::part;
 ghost use Prim.Native.Nat.{ℕ, _-_, _≤_, _<_};
 ghost use mathlib.Core.Path.{_≡_};
 ghost use mathlib.Core.Bool.{false, not, _&&_};

@@ -24,7 +24,7 @@ use Rattle.format.specs.Written.{written}
 use Rattle.format.specs.Writing.{fileOf}
 use Rattle.format.specs.Rewriting.{lengths, readingIn, rewrittenFile, rewriting, rewrittenRoom}
 use Rattle.reader.proofs.FileLaws.{counted}
-use Rattle.lookup.proofs.NameLaws.{take-min}
+use Rattle.values.proofs.CutLaws.{take-min}
 
 -- a refusal to read the file is one of converting and reading
 not-read : (a : Answer) (n : ℕ) (us vs : List ℕ) → refused n us ≡ andThen a (accepted vs) → a ≡ refused n us

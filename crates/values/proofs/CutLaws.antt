@@ -1,16 +1,16 @@
--- Parts of a slice as the code cuts them: up to the first of a byte, after it, and a token at its first colon.
+-- Parts of a slice as the code cuts them: between two places, up to the first of a byte, after it, and a token at its first colon.
 use Prim.Native.Nat.{ℕ, suc, _+_, _-_, _≤_, _<_, min}
 use mathlib.Core.Path.{_≡_, refl, sym, ap, _∙_}
 use mathlib.Core.Bool.{true, false, not, _||_}
 use mathlib.Core.List.{List, []}
 use native.Mathlib.Numerals.{add-one}
 use native.Mathlib.Omega.{arith}
-use lib.Dec.{eqb}
+use lib.Dec.{eqb, leb}
 use lib.ListN.{length, take, drop, length-drop, drop-of-length-le}
-use lib.Seq.{take-all, drop-drop, length-take-le}
-use borrow.Author.Tests.{eqb-true, eqb-false, lt-ltb, le-ltb}
+use lib.Seq.{take-all, take-length, drop-drop, length-take-le}
+use borrow.Author.Tests.{eqb-true, eqb-false, leb-true, leb-false, lt-ltb, le-ltb}
 use Rattle.format.specs.Bytes.{colon}
-use Rattle.format.specs.Texts.{has, isEmpty, beforeFirst, afterFirst, run}
+use Rattle.format.specs.Texts.{has, isEmpty, beforeFirst, afterFirst, run, bytesAt}
 use Rattle.format.specs.Tokens.{nameOf, valueOf}
 use Rattle.format.specs.CueSettings.{spanIs}
 use Rattle.laws.proofs.Tests.{by-test, or-true}
@@ -18,6 +18,30 @@ use Rattle.laws.proofs.Runs.{run-take, run-length, drop-take}
 use Rattle.laws.proofs.Tokens.{first-at, after-at}
 use Rattle.values.specs.Tokens.{tokenFrom, Named, spanTo, partOf}
 use Rattle.values.proofs.NumberLaws.{is-empty-not, empty-is}
+
+-- the first elements of a list, cut to its length
+pub take-min : {A : Type 0} (n : ℕ) (l : List A) → take n l ≡ take (min n (length l)) l
+take-min n l =
+    by-test (leb n (length l))
+    (λ y. let e : min n (length l) ≡ n = omega (arith, leb-true n (length l) y) in rw e)
+    (λ z. let k = leb-false n (length l) z in
+    let e : min n (length l) ≡ length l = omega arith in
+    rw (e, take-length l) (take-all n l (omega arith)))
+
+-- a part is the same whether or not its places are first cut to the text
+pub cut-is :
+    (s : List ℕ) (from to end start : ℕ)
+    → end ≡ min to (length s)
+    → start ≡ min from end
+    → take (end - start) (drop start s) ≡ bytesAt s from to
+unfolding bytesAt
+cut-is s from to end start e b =
+    let size : min (to - from) (length (drop from s)) ≡ end - start = omega (arith, length-drop from s) in
+    sym
+    (take-min (to - from) (drop from s)
+    ∙ by-test (leb from end)
+    (λ y. let l = leb-true from end y in let f : start ≡ from = omega arith in rw (size, f))
+    (λ n. let l = leb-false from end n in let z : end - start ≡ 0 = omega arith in rw (size, z)))
 
 -- the first c stands at k, or nowhere where k is the length
 module _ (c : ℕ) (x : List ℕ) (k : ℕ) (e : k ≡ length (beforeFirst c x)) where

@@ -1,9 +1,10 @@
-// Bytes, runs of bytes, and texts compared.
+// Bytes, runs of bytes, parts of a text, and texts compared.
+use super::least;
 ghost use mathlib.Core.Path.{_≡_};
 ghost use Prim.Native.Nat.{_+_};
 ghost use lib.ListN.{length, drop};
 ghost use Rattle.format.specs.Bytes.{digit, white};
-ghost use Rattle.format.specs.Texts.{same, run};
+ghost use Rattle.format.specs.Texts.{same, run, bytesAt};
 ghost use Rattle.values.specs.Runs.{passes};
 
 pub fn is_digit(b: u8) -> bool
@@ -65,6 +66,15 @@ pub fn past(s: &[u8], at: usize, kind: ByteKind) -> usize
         i += 1;
     }
     i
+}
+
+// The bytes of a text from one place up to another, as far as the text has them.
+pub fn part<'a>(text: &'a [u8], from: usize, to: usize) -> &'a [u8]
+    ensures { λ r. ⌜ now r ≡ bytesAt (now (text .entry)) from to ⌝ }
+{
+    let end = least(to, text.len());
+    let start = least(from, end);
+    &text[start..end]
 }
 
 // Are these the same bytes.

@@ -15,33 +15,28 @@ use format::settings::Position;
 use format::settings::PositionAlign;
 use format::settings::PositionPlace;
 use format::settings::Span;
+use lookup::inner::KNOWN_ROWS;
 use parts::part_plain;
+use values::bytes::part;
 ghost use Prim.Native.Nat.{_*_};
 ghost use mathlib.Core.Path.{_≡_};
 ghost use mathlib.Core.Bool.{cond, not, _&&_};
 ghost use mathlib.Core.List.{[], _∷_};
 ghost use lib.Dec.{leb};
+ghost use lib.ListN.{length};
 ghost use Rattle.format.specs.Limits.{maxLine};
 ghost use Rattle.format.specs.Texts.{bytesAt};
 ghost use Rattle.format.specs.Rows.{cueEntry};
 ghost use Rattle.format.specs.Contents.{optionOf, regionOfEntry, cueOfRow};
-ghost use Rattle.format.specs.Writable.{firstFailing, atMost100, isStart, isAuto, lineFits, positionFits, lastOfItsName, namesOf, cueTest1, cueTest2, cueTest3, cueTest4, cueTest5, cueTest6, cueTests, cueFails, regionTest1, regionTest3, regionTests, regionFails, styleFails};
+ghost use Rattle.format.specs.Writable.{firstFailing, atMost100, isStart, isAuto, lineFits, positionFits, namesOf, cueTest1, cueTest2, cueTest3, cueTest4, cueTest5, cueTest6, cueTests, cueFails, regionTest1, regionTest3, regionTests, regionFails, styleFails};
 ghost use Rattle.format.specs.Writing.{firstIn};
+ghost use Rattle.lookup.specs.Known.{AllLast};
 ghost use Rattle.writable.specs.Faults.{testNumber, faultIs};
 
 // The first row of a list that is not writable, and the first test that it fails.
 pub enum Fault {
     None,
     At { index: usize, test: usize },
-}
-
-// The bytes of a text from one place up to another, as far as the text has them.
-pub fn part<'a>(text: &'a [u8], from: usize, to: usize) -> &'a [u8]
-    ensures { λ r. ⌜ now r ≡ bytesAt (now (text .entry)) from to ⌝ }
-{
-    let end = values::least(to, text.len());
-    let start = values::least(from, end);
-    &text[start..end]
 }
 
 // The first test that a style fails; 0 where it is writable.
@@ -204,30 +199,18 @@ fn numbers_fit(row: CueRow) -> bool
     at_most_100(rows::cues::size(row))
 }
 
-// Is the region with this index in the list, has it an identifier, and is it the last with it.
-fn is_last_of_its_name(text: &[u8], regions: &[RegionRow], index: usize) -> bool
-    ensures { λ r. ⌜ r ≡ lastOfItsName (namesOf (now (text .entry)) (now (regions .entry))) index ⌝ }
-{
-    if regions.len() <= index {
-        return false;
-    }
-    let name = rows::regions::id(regions[index]);
-    if part(text, name.from, name.to).len() == 0 {
-        return false;
-    }
-    match lookup::find_region(text, regions, regions.len(), name) {
-        RegionIndex::None => false,
-        RegionIndex::At(found) => found == index as u64,
-    }
-}
-
-// A cue's test 6.
-fn region_fits(text: &[u8], regions: &[RegionRow], region: RegionIndex) -> bool
-    ensures { λ r. ⌜ r ≡ cueTest6 (namesOf (now (text .entry)) (now (regions .entry))) (optionOf region) ⌝ }
+// A cue's test 6, where `known` holds indices of regions that pass it, each increased by one.
+fn region_fits(text: &[u8], regions: &[RegionRow], region: RegionIndex, known: &mut [usize]) -> bool
+    requires { ⌜ length (now known) ≡ 256 ⌝ }
+    requires { ⌜ AllLast (namesOf (now text) (now regions)) (now known) ⌝ }
+    ensures answer { λ r. ⌜ r ≡ cueTest6 (namesOf (now (text .entry)) (now (regions .entry))) (optionOf region) ⌝ }
+    ensures known { λ _. ⌜ AllLast (namesOf (now (text .entry)) (now (regions .entry))) (now (known .exit)) ⌝ }
 {
     match region {
         RegionIndex::None => true,
-        RegionIndex::At(index) => is_last_of_its_name(text, regions, index as usize),
+        RegionIndex::At(index) => {
+            lookup::inner::is_known_last(text, regions, index as usize, known)
+        }
     }
 }
 
@@ -282,14 +265,17 @@ pub fn cue_fields_test(text: &[u8], row: CueRow) -> usize
 }
 
 // The first test that a cue fails; 0 where it is writable.
-fn cue_test(text: &[u8], regions: &[RegionRow], row: CueRow) -> usize
-    ensures { λ r. ⌜ r ≡ testNumber (cueFails (now (text .entry)) (now (regions .entry)) row) ⌝ }
+fn cue_test(text: &[u8], regions: &[RegionRow], row: CueRow, known: &mut [usize]) -> usize
+    requires { ⌜ length (now known) ≡ 256 ⌝ }
+    requires { ⌜ AllLast (namesOf (now text) (now regions)) (now known) ⌝ }
+    ensures answer { λ r. ⌜ r ≡ testNumber (cueFails (now (text .entry)) (now (regions .entry)) row) ⌝ }
+    ensures known { λ _. ⌜ AllLast (namesOf (now (text .entry)) (now (regions .entry))) (now (known .exit)) ⌝ }
 {
     let fields = cue_fields_test(text, row);
     if fields != 0 {
         return fields;
     }
-    if !region_fits(text, regions, rows::cues::region(row)) {
+    if !region_fits(text, regions, rows::cues::region(row), known) {
         return 6;
     }
     0
@@ -329,9 +315,10 @@ pub fn first_region(text: &[u8], regions: &[RegionRow]) -> Fault
 pub fn first_cue(text: &[u8], regions: &[RegionRow], cues: &[CueRow]) -> Fault
     ensures { λ r. ⌜ faultIs 2 r ≡ firstIn 2 (cueFails (now (text .entry)) (now (regions .entry))) 0 (now (cues .entry)) ⌝ }
 {
+    let mut known = [0; KNOWN_ROWS];
     let mut i = 0;
     while i < cues.len() {
-        let test = cue_test(text, regions, cues[i]);
+        let test = cue_test(text, regions, cues[i], &mut known);
         if test != 0 {
             return Fault::At { index: i, test };
         }

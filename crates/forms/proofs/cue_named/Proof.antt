@@ -12,7 +12,7 @@ use Rattle.forms.proofs.line_after.Reads as line-after-reads
 use Rattle.forms.proofs.timing_line.Reads as timing-line-reads
 use Rattle.rows.proofs.cues.id.Reads as id-reads
 use Rattle.rows.proofs.cues.text.Reads as text-reads
-use Rattle.writable.proofs.part.Reads as part-reads
+use Rattle.values.proofs.bytes.part.Reads as part-reads
 
 id-requires : tie.Need-id-requires
 id-requires c κs = search needs

@@ -5,12 +5,12 @@ use native.Mathlib.Omega.{arith}
 use lib.ListN.{length-map, List·getD-map, List·getD-eq-default}
 use Rattle.format.specs.Texts.{bytesAt}
 use Rattle.format.specs.Contents.{regionOfEntry}
-use Rattle.writable.proofs.NameLaws.{nameAt}
+use Rattle.lookup.proofs.NameLaws.{nameAt}
 use borrow.Author.Needs.{needs}
 use Rattle.forms.proofs.region_name.Statement.{statement}
 use Rattle.forms.proofs.region_name.Tie as tie
 use Rattle.rows.proofs.regions.id.Reads as id-reads
-use Rattle.writable.proofs.part.Reads as part-reads
+use Rattle.values.proofs.bytes.part.Reads as part-reads
 
 slice-aggregate-result : tie.Need-slice-aggregate-result
 slice-aggregate-result c = search needs

@@ -10,7 +10,7 @@ use Rattle.forms.proofs.style.Statement.{statement}
 use Rattle.forms.proofs.style.Tie as tie
 use Rattle.output.proofs.bytes.Reads as bytes-reads
 use Rattle.rows.proofs.styles.text.Reads as text-reads
-use Rattle.writable.proofs.part.Reads as part-reads
+use Rattle.values.proofs.bytes.part.Reads as part-reads
 
 text-requires : tie.Need-text-requires
 text-requires c κs = search needs

@@ -1,144 +1,106 @@
--- `lookup::find_region` meets its contract: what is left, all rows but the last k, gives the answer of all.
-use Prim.Native.Nat.{ℕ, _+_, _-_, _≤_, _<_, min}
-use mathlib.Core.Path.{_≡_, sym, ap, _∙_}
+-- `lookup::find_region` meets its contract: the records from i on have another name, and were seen.
+use Prim.Native.Nat.{_+_, _-_, _≤_, _<_}
+use mathlib.Core.Path.{_≡_, refl, sym, ap, _∙_}
 use mathlib.Core.Bool.{cond}
-use mathlib.Core.List.{List, [], map}
-use mathlib.Core.Option.{some}
+use mathlib.Core.List.{[]}
 use native.Mathlib.Omega.{arith}
-use lib.ListN.{length, take, drop}
-use Rattle.format.specs.RegionSettings.{lastNamed}
-use Rattle.format.specs.Rows.{regionEntry}
-use Rattle.values.specs.Tokens.{partOf}
-use Rattle.lookup.proofs.NameLaws.{part-bytes, named-before, take-min}
+use lib.ListN.{length, take, getD}
+use Rattle.format.specs.Texts.{same, bytesAt}
+use Rattle.format.specs.Contents.{regionOfEntry}
+use Rattle.format.specs.Writable.{namesOf}
+use Rattle.format.specs.LookingUp.{lookUp}
+use Rattle.format.specs.declared.rows.RegionIndex.the-variants as RegionIndex
+use Rattle.laws.proofs.LookingUp.{more, look-up-start, look-up-turn, look-up-end, look-up-last}
+use Rattle.lookup.proofs.NameLaws.{names-length, name-at}
 use borrow.Author.Needs.{needs}
 use Rattle.lookup.proofs.find_region.Statement.{statement}
 use Rattle.lookup.proofs.find_region.Tie as tie
 
--- the identifier of a row
-abbrev idOf : List ℕ → List ℕ → List ℕ
-idOf s row = partOf s (regionEntry row .id .from) (regionEntry row .id .to) .bytes
-
 abbrev Inv-loop : tie.InvT-loop
-Inv-loop text regions count end start wanted rows k₀ k =
-    (k ≤ rows)
-    × (lastNamed 0 wanted (map (idOf text) (take count regions)) ≡ lastNamed 0 wanted (map (idOf text) (take (rows - k) regions)))
+Inv-loop text regions name count i₀ i =
+    (i ≤ count) × (lookUp name (namesOf text regions) ≡ more (count - i) (lookUp name (take i (namesOf text regions))))
 
 abbrev μ-loop : tie.MeasureT-loop
-μ-loop text regions count end start wanted rows k₀ k = rows - k
-
-least-requires : tie.Need-least-requires Inv-loop μ-loop
-least-requires c κs = search needs
-
-least-requires-2 : tie.Need-least-requires-2 Inv-loop μ-loop
-least-requires-2 c κs = search needs
-
-sub-wanted : tie.Need-sub-wanted Inv-loop μ-loop
-sub-wanted c = search needs
-
-part-wanted-start : tie.Need-part-wanted-start Inv-loop μ-loop
-part-wanted-start c = search needs
-
-part-wanted-end : tie.Need-part-wanted-end Inv-loop μ-loop
-part-wanted-end c = search needs
-
-least-requires-3 : tie.Need-least-requires-3 Inv-loop μ-loop
-least-requires-3 c κs = search needs
+μ-loop text regions name count i₀ i = i
 
 loop-holds : tie.Need-loop-holds Inv-loop μ-loop
 loop-holds c =
-    let cut = c .before .before in
-    let args = cut .before .before .before .args in
-    let wanted = take (cut .before .least .result - cut .least2 .result) (drop (cut .least2 .result) (args .text .now)) in
-    let rows = args .regions .now in
-    let all : c .least3 .result - 0 ≡ min (args .count) (length rows) = omega (arith, c .least3 .ensures) in
-    (omega arith, rw all (ap (λ r. lastNamed 0 wanted (map (idOf (args .text .now)) r)) (take-min (args .count) rows)))
+    let a = c .before .before .args in
+    let rows = a .regions .now in
+    (omega arith, sym (look-up-start (a .name .now) (namesOf (a .text .now) rows) (length rows) (names-length (a .text .now) rows)))
 
-from-end-requires : tie.Need-from-end-requires Inv-loop μ-loop
-from-end-requires c κs = search needs
+sub-i : tie.Need-sub-i Inv-loop μ-loop
+sub-i c = search needs
 
--- the row's index is inside the table
-row-inside :
-    (c : tie.After-from-end Inv-loop μ-loop)
-    → c .from-end .result < length (c .before .before .before .before .before .before .before .before .args .regions .now)
-row-inside c = omega (arith, c .from-end .ensures, c .before .before .before .least3 .ensures)
+-- the row is inside the table
+row-inside : (c : tie.In-loop Inv-loop μ-loop) → c .before .loop .i - 1 < length (c .before .before .before .before .args .regions .now)
+row-inside c = omega arith
 
-mul-row : tie.Need-mul-row Inv-loop μ-loop
-mul-row c = let inside = row-inside c in search (needs, inside)
+mul-id : tie.Need-mul-id Inv-loop μ-loop
+mul-id c = let inside = row-inside c in search (needs, inside)
 
-shared-slice-copy-out-row : tie.Need-shared-slice-copy-out-row Inv-loop μ-loop
-shared-slice-copy-out-row c = row-inside c
+shared-slice-copy-out-id : tie.Need-shared-slice-copy-out-id Inv-loop μ-loop
+shared-slice-copy-out-id c = row-inside c
+
+id-requires : tie.Need-id-requires Inv-loop μ-loop
+id-requires c κs = search needs
 
 is-named-requires : tie.Need-is-named-requires Inv-loop μ-loop
 is-named-requires c κs = search needs
 
--- one turn: the row is the one, or the rows before it give the answer
+-- one turn: the record at i is the one, or those before it are left
 turn :
     (c : tie.After-is-named Inv-loop μ-loop)
-    → let found = c .before .before in
-    let at = found .before .before in
-    let cut = at .before .before .before in
-    let args = cut .before .before .before .args in
-    let wanted = take (cut .before .least .result - cut .least2 .result) (drop (cut .least2 .result) (args .text .now)) in
-    lastNamed 0 wanted (map (idOf (args .text .now)) (take (args .count) (args .regions .now)))
-    ≡ cond (c .is-named .result) (some (found .from-end .result))
-    (lastNamed 0 wanted (map (idOf (args .text .now)) (take (found .from-end .result) (args .regions .now))))
+    → let at = c .before .before .before .before in
+    let a = at .before .before .before .args in
+    let names = namesOf (a .text .now) (a .regions .now) in
+    let n = length (a .regions .now) in
+    let i = at .loop .i - 1 in
+    lookUp (a .name .now) names
+    ≡ cond (c .is-named .result) (record { index = RegionIndex.At i; seen = n - i }) (more (n - i) (lookUp (a .name .now) (take i names)))
+unfolding regionOfEntry
 turn c =
-    let found = c .before .before in
-    let at = found .before .before in
-    let rows = at .before .least3 in
-    let cut = at .before .before .before in
-    let args = cut .before .before .before .args in
-    let left = rows .result - at .loop .k in
-    let i = found .from-end .result in
-    let wanted = take (cut .before .least .result - cut .least2 .result) (drop (cut .least2 .result) (args .text .now)) in
-    let before = lastNamed 0 wanted (map (idOf (args .text .now)) (take i (args .regions .now))) in
-    let last : left - 1 ≡ i = omega (arith, found .from-end .ensures) in
-    at .loop .inv .1
-    ∙ rw last at (named-before (idOf (args .text .now)) wanted (args .regions .now) [] left (omega arith) (omega (arith, rows .ensures)))
-    ∙ ap (λ t. cond t (some i) before) (sym (c .is-named .ensures))
+    let at = c .before .before .before .before in
+    let a = at .before .before .before .args in
+    let s = a .text .now in
+    let x = a .name .now in
+    let names = namesOf s (a .regions .now) in
+    let n = length (a .regions .now) in
+    let i = at .loop .i - 1 in
+    let next : at .loop .i ≡ i + 1 = omega arith in
+    let own : same (getD names i []) x ≡ c .is-named .result =
+    ap (λ y. same y x) (name-at s (a .regions .now) i)
+    ∙ sym (c .is-named .ensures ∙ ap (λ p. same (bytesAt s (p .from) (p .to)) x) (c .before .id .ensures)) in
+    rw next at (at .loop .inv .1)
+    ∙ look-up-turn x names n (names-length s (a .regions .now)) i (omega arith)
+    ∙ ap (λ t. cond t (record { index = RegionIndex.At i; seen = n - i }) (more (n - i) (lookUp x (take i names)))) own
 
--- the name that was cut
-cut-name :
-    (c : tie.After-least2 Inv-loop μ-loop)
-    → let args = c .before .before .before .args in
-    take (c .before .least .result - c .least2 .result) (drop (c .least2 .result) (args .text .now))
-    ≡ partOf (args .text .now) (args .name .from) (args .name .to) .bytes
-cut-name c =
-    let args = c .before .before .before .args in
-    part-bytes
-    (args .text .now)
-    (args .name .from)
-    (args .name .to)
-    (c .before .least .result)
-    (c .least2 .result)
-    (c .before .least .ensures)
-    (c .least2 .ensures)
+sub-t14 : tie.Need-sub-t14 Inv-loop μ-loop
+sub-t14 c = search needs
 
 returns : tie.Need-returns Inv-loop μ-loop
 returns c =
-    let cut = c .before .before .before .before .before .before .before .before in
-    sym (rw (← cut-name cut, turn (c .before), c .if1 .taken))
-
-add-k : tie.Need-add-k Inv-loop μ-loop
-add-k c = search needs
+    let at = c .before .before .before .before .before in
+    let a = at .before .before .before .args in
+    let names = namesOf (a .text .now) (a .regions .now) in
+    let found = rw (c .if1 .taken) at (turn (c .before)) in
+    (sym found, rw found at (look-up-last (a .name .now) names))
 
 loop-less : tie.Need-loop-less Inv-loop μ-loop
 loop-less c = search needs
 
 loop-again : tie.Need-loop-again Inv-loop μ-loop
-loop-again c =
-    let found = c .before .before .before in
-    let at = found .before .before in
-    let next : at .before .least3 .result - (at .loop .k + 1) ≡ found .from-end .result = omega (arith, found .from-end .ensures) in
-    (omega arith, turn (c .before) ∙ rw (c .if1 .left, next))
+loop-again c = (omega arith, turn (c .before) ∙ rw (c .if1 .left) refl)
 
 returns-2 : tie.Need-returns-2 Inv-loop μ-loop
-unfolding lastNamed
 returns-2 c =
     let at = c .before in
-    let cut = at .before .before .before in
-    let z : at .before .least3 .result - at .loop .k ≡ 0 = omega arith in
-    sym (rw (← cut-name cut, at .loop .inv .1, z))
+    let a = at .before .before .before .args in
+    let names = namesOf (a .text .now) (a .regions .now) in
+    let n = length (a .regions .now) in
+    let z : at .loop .i ≡ 0 = omega arith in
+    let found = rw z at (at .loop .inv .1) ∙ look-up-end (a .name .now) names n (names-length (a .text .now) (a .regions .now)) in
+    (sym found, rw found at (look-up-last (a .name .now) names))
 
 pub find-region-spec : {M : Type 1} → statement M
 find-region-spec =
@@ -146,19 +108,14 @@ find-region-spec =
     (tie.spec
     Inv-loop
     μ-loop
-    least-requires
-    least-requires-2
-    sub-wanted
-    part-wanted-start
-    part-wanted-end
-    least-requires-3
     loop-holds
-    from-end-requires
-    mul-row
-    shared-slice-copy-out-row
+    sub-i
+    mul-id
+    shared-slice-copy-out-id
+    id-requires
     is-named-requires
+    sub-t14
     returns
-    add-k
     loop-less
     loop-again
     returns-2)

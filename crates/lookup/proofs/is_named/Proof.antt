@@ -1,61 +1,33 @@
 -- `lookup::is_named` meets its contract.
-use mathlib.Core.Path.{ap, _∙_}
+use mathlib.Core.Path.{sym, ap, _∙_}
+use borrow.Author.Tests.{not-true}
 use Rattle.format.specs.Texts.{same}
-use Rattle.values.specs.Tokens.{partOf}
-use Rattle.lookup.proofs.NameLaws.{part-bytes}
 use borrow.Author.Needs.{needs}
 use Rattle.lookup.proofs.is_named.Statement.{statement}
 use Rattle.lookup.proofs.is_named.Tie as tie
 
-id-requires : tie.Need-id-requires
-id-requires c κs = search needs
+part-requires : tie.Need-part-requires
+part-requires c κs = search needs
 
-least-requires : tie.Need-least-requires
-least-requires c κs = search needs
+ends-alike-requires : tie.Need-ends-alike-requires
+ends-alike-requires c κs = search needs
 
-least-requires-2 : tie.Need-least-requires-2
-least-requires-2 c κs = search needs
-
-sub-same-bytes : tie.Need-sub-same-bytes
-sub-same-bytes c = search needs
-
-part-same-bytes-start : tie.Need-part-same-bytes-start
-part-same-bytes-start c = search needs
-
-part-same-bytes-end : tie.Need-part-same-bytes-end
-part-same-bytes-end c = search needs
+returns : tie.Need-returns
+returns c =
+    let ends = c .before in
+    let cut = ends .before in
+    let a = cut .before .before .before .args in
+    sym (ap (λ x. same x (a .name .now)) (sym (cut .part .ensures)) ∙ ends .ends-alike .ensures (not-true (ends .ends-alike .result) (c .if1 .taken)))
 
 same-bytes-requires : tie.Need-same-bytes-requires
 same-bytes-requires c κs = search needs
 
-returns : tie.Need-returns
-returns c =
-    let cut = c .before .before in
-    let id = cut .before .before .id in
-    let args = cut .before .before .before .before .before .args in
-    let part =
-    part-bytes
-    (args .text .now)
-    (id .result .from)
-    (id .result .to)
-    (cut .before .least .result)
-    (cut .least2 .result)
-    (cut .before .least .ensures)
-    (cut .least2 .ensures)
-    in
-    c .same-bytes .ensures
-    ∙ ap (λ x. same x (args .name .now)) part
-    ∙ ap (λ p. same (partOf (args .text .now) (p .from) (p .to) .bytes) (args .name .now)) (id .ensures)
+returns-2 : tie.Need-returns-2
+returns-2 c =
+    let cut = c .before .before .before in
+    let a = cut .before .before .before .args in
+    c .same-bytes .ensures ∙ ap (λ x. same x (a .name .now)) (cut .part .ensures)
 
 pub is-named-spec : {M : Type 1} → statement M
 is-named-spec =
-    tie.close
-    (tie.spec
-    id-requires
-    least-requires
-    least-requires-2
-    sub-same-bytes
-    part-same-bytes-start
-    part-same-bytes-end
-    same-bytes-requires
-    returns)
+    tie.close (tie.spec part-requires ends-alike-requires returns same-bytes-requires returns-2)

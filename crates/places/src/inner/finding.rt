@@ -5,14 +5,13 @@ use blocks::collecting::is_last;
 use blocks::items::Item;
 use blocks::items::ItemKind;
 use format::settings::Span;
-use values::bytes::same_bytes;
 ghost use mathlib.Core.Path.{_≡_};
 ghost use mathlib.Core.Bool.{cond};
 ghost use Prim.Native.Nat.{_<_};
 ghost use lib.Dec.{eqb, ltb};
 ghost use lib.ListN.{length};
 ghost use Rattle.blocks.specs.Items.{meaningAt, PlacesIn, itemIs, kindIs};
-ghost use Rattle.places.specs.Finding.{hasName, itemNamed, withItem, SurveyedIs};
+ghost use Rattle.places.specs.Finding.{itemNamed, withItem, SurveyedIs};
 
 // What the blocks have that were passed over.
 pub struct Found {
@@ -29,15 +28,6 @@ pub enum Surveyed {
     // A number is above its limit.
     OverLimit,
     Readable(Found),
-}
-
-// Is the part of the text at these places this name.
-fn is_named(s: &[u8], id: Span, name: &[u8]) -> bool
-    ensures { λ r. ⌜ r ≡ hasName (now (s .entry)) id (now (name .entry)) ⌝ }
-{
-    let end = values::least(id.to, s.len());
-    let start = values::least(id.from, end);
-    same_bytes(&s[start..end], name)
 }
 
 // Where the lines of the cue asked for stand, with one cue more, which has these lines.
@@ -62,7 +52,7 @@ fn is_region_named(s: &[u8], item: Item, name: &[u8]) -> bool
         Item::Style(_) => false,
         Item::Region(region) => {
             let id = region.id;
-            is_named(s, id, name)
+            lookup::is_named(s, id, name)
         }
     }
 }

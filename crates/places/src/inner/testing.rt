@@ -1,7 +1,7 @@
 // The tests of "writable" on the new cue, a row over a text lent with it.
 use format::rows::NewCueRow;
 use parts::part_plain;
-use writable::part;
+use values::bytes::part;
 ghost use mathlib.Core.Path.{_≡_};
 ghost use mathlib.Core.List.{List};
 ghost use Prim.Native.Nat.{ℕ};

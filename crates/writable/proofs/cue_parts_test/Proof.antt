@@ -6,7 +6,7 @@ use Rattle.writable.proofs.FaultLaws.{failed, passed}
 use borrow.Author.Needs.{needs}
 use Rattle.writable.proofs.cue_parts_test.Statement.{statement}
 use Rattle.writable.proofs.cue_parts_test.Tie as tie
-use Rattle.writable.proofs.part.Reads as part-reads
+use Rattle.values.proofs.bytes.part.Reads as part-reads
 use Rattle.writable.proofs.text_fits.Reads as text-fits-reads
 use Rattle.writable.proofs.texts.is_identifier.Reads as is-identifier-reads
 

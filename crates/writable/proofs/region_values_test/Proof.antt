@@ -8,7 +8,7 @@ use Rattle.writable.proofs.FaultLaws.{failed, passed}
 use borrow.Author.Needs.{needs}
 use Rattle.writable.proofs.region_values_test.Statement.{statement}
 use Rattle.writable.proofs.region_values_test.Tie as tie
-use Rattle.writable.proofs.part.Reads as part-reads
+use Rattle.values.proofs.bytes.part.Reads as part-reads
 use Rattle.writable.proofs.percentages_fit.Reads as percentages-fit-reads
 use Rattle.writable.proofs.texts.is_region_identifier.Reads as is-region-identifier-reads
 

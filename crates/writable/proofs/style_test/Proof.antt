@@ -10,7 +10,7 @@ use Rattle.writable.proofs.style_test.Statement.{statement}
 use Rattle.writable.proofs.style_test.Tie as tie
 use Rattle.parts.proofs.part_plain.Reads as part-plain-reads
 use Rattle.rows.proofs.styles.text.Reads as text-reads
-use Rattle.writable.proofs.part.Reads as part-reads
+use Rattle.values.proofs.bytes.part.Reads as part-reads
 use Rattle.writable.proofs.texts.is_unbroken.Reads as is-unbroken-reads
 
 -- the two tests, as the code asks them

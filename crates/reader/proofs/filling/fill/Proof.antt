@@ -1,13 +1,15 @@
 -- `reader::filling::fill` meets its contract.
 use Prim.Native.Nat.{ℕ, _-_}
-use mathlib.Core.Path.{_≡_, sym, _∙_}
+use mathlib.Core.Path.{_≡_, refl, sym, _∙_}
 use mathlib.Core.List.{List, []}
 use native.Mathlib.Omega.{arith}
 use lib.Dec.{ltb}
-use lib.ListN.{length}
+use lib.ListN.{length, take}
 use Rattle.blocks.specs.declared.collecting.Stop.{Stop}
 use Rattle.blocks.specs.Items.{meaningAt, NextAt, itemIs}
 use Rattle.blocks.proofs.WalkLaws.{fresh, next-none, next-found, last, moves, places-in}
+use Rattle.lookup.specs.Known.{AllRight}
+use Rattle.lookup.proofs.KnownLaws.{right-none}
 use Rattle.reader.specs.Counting.{withItem}
 use Rattle.reader.specs.Filling.{cuesWith, regionsWith, stylesWith}
 use Rattle.reader.proofs.FillLaws.{Fits, fits-of, Filled, fill-start, fill-room, fill-next, fill-end, fill-lengths}
@@ -16,10 +18,11 @@ use Rattle.reader.proofs.filling.fill.Statement.{statement}
 use Rattle.reader.proofs.filling.fill.Tie as tie
 
 abbrev Inv-loop : tie.InvT-loop
-Inv-loop s from cues₀ regions₀ styles₀ at₀ n₀ cues regions styles at n = Filled s cues₀ regions₀ styles₀ at n cues regions styles
+Inv-loop s from cues₀ regions₀ styles₀ at₀ n₀ known₀ cues regions styles at n known =
+    Filled s cues₀ regions₀ styles₀ at n cues regions styles × (length known ≡ 256) × AllRight s (take (n .regions) regions) known
 
 abbrev μ-loop : tie.MeasureT-loop
-μ-loop s from cues₀ regions₀ styles₀ at₀ n₀ cues regions styles at n = length s - at
+μ-loop s from cues₀ regions₀ styles₀ at₀ n₀ known₀ cues regions styles at n known = length s - at
 
 fits : (c : tie.Start Inv-loop μ-loop) → let a = c .args in Fits (a .text .now) (a .cues .now) (a .regions .now) (a .styles .now)
 fits c =
@@ -31,7 +34,7 @@ loop-holds : tie.Need-loop-holds Inv-loop μ-loop
 loop-holds c =
     let a = c .before .args in
     let pre = c .before .pre in
-    fill-start (a .text .now) (a .cues .now) (a .regions .now) (a .styles .now) (a .from) (pre .0 .0) (pre .0 .2) (pre .0 .3)
+    (fill-start (a .text .now) (a .cues .now) (a .regions .now) (a .styles .now) (a .from) (pre .0 .0) (pre .0 .2) (pre .0 .3), refl, right-none (a .text .now) [] 256)
 
 next-block-requires : tie.Need-next-block-requires Inv-loop μ-loop
 next-block-requires c κs = search needs
@@ -49,7 +52,7 @@ lengths :
 lengths c =
     let start = c .before .before in
     let a = start .args in
-    fill-lengths (a .text .now) (a .cues .now) (a .regions .now) (a .styles .now) (c .loop .at) (c .loop .n) (c .loop .cues) (c .loop .regions) (c .loop .styles) (fits start) (c .loop .inv)
+    fill-lengths (a .text .now) (a .cues .now) (a .regions .now) (a .styles .now) (c .loop .at) (c .loop .n) (c .loop .cues) (c .loop .regions) (c .loop .styles) (fits start) (c .loop .inv .0)
 
 same-length : tie.Need-same-length Inv-loop μ-loop
 same-length c = lengths (c .before .before .before) .0
@@ -67,7 +70,7 @@ returns c =
     let a = start .args in
     let s = a .text .now in
     let none : fresh s (at .loop .at) ≡ [] = next-none s (at .loop .at) (c .before .before .next-block .result) (c .before .before .next-block .ensures) (c .enum-told .given .1) in
-    let full = fill-end s (a .cues .now) (a .regions .now) (a .styles .now) (fits start) (at .loop .at) (at .loop .n) (at .loop .cues) (at .loop .regions) (at .loop .styles) (at .loop .inv) none in
+    let full = fill-end s (a .cues .now) (a .regions .now) (a .styles .now) (fits start) (at .loop .at) (at .loop .n) (at .loop .cues) (at .loop .regions) (at .loop .styles) (at .loop .inv .0) none in
     (full .0, (full .1, full .2))
 
 -- the block that was found
@@ -87,72 +90,79 @@ module _ (c : tie.After-next Inv-loop μ-loop) where
   found : NextAt s (at .loop .at) from stop
   found = next-found s (at .loop .at) (c .before .before .next-block .result) (c .before .before .next-block .ensures) from stop (c .next .given .1)
 
+slice-aggregate-put : tie.Need-slice-aggregate-put Inv-loop μ-loop
+slice-aggregate-put c = sym (c .before .before .before .before .before .loop .inv .1)
+
 put-requires : tie.Need-put-requires Inv-loop μ-loop
 put-requires c κs =
-    let l = c .before .before .before .before in
+    let l = c .before .before .before .before .before in
     let start = at l .before .before in
     let a = start .args in
-    let own = at l .loop in (
-      places-in (s l) (own .at) (from l) (stop l) (found l),
-      fill-room (s l) (a .cues .now) (a .regions .now) (a .styles .now) (own .at) (from l) (stop l) (found l) (own .n) (own .cues) (own .regions) (own .styles) (own .inv) (fits start),
-    )
+    let own = at l .loop in
+    let places = places-in (s l) (own .at) (from l) (stop l) (found l) in
+    let room = fill-room (s l) (a .cues .now) (a .regions .now) (a .styles .now) (own .at) (from l) (stop l) (found l) (own .n) (own .cues) (own .regions) (own .styles) (own .inv .0) (fits start) in
+    (own .inv .1, (own .inv .2, (places, room)))
 
 -- the tables with the item's row
 more :
     (c : tie.After-put Inv-loop μ-loop)
-    → let l = c .before .before .before .before .before in
+    → let l = c .before .before .before .before .before .before in
     let a = at l .before .before .args in
     let own = at l .loop in
     let i = itemIs (meaningAt (ltb 0 (own .n .cues)) (s l) (from l) (stop l)) in
     Filled (s l) (a .cues .now) (a .regions .now) (a .styles .now) (stop l .at) (withItem i (own .n)) (cuesWith (s l) i (own .n) (own .regions) (own .cues))
     (regionsWith i (own .n) (own .regions)) (stylesWith i (own .n) (own .styles))
 more c =
-    let l = c .before .before .before .before .before in
+    let l = c .before .before .before .before .before .before in
     let start = at l .before .before in
     let a = start .args in
     let own = at l .loop in
-    fill-next (s l) (a .cues .now) (a .regions .now) (a .styles .now) (own .at) (from l) (stop l) (found l) (own .n) (own .cues) (own .regions) (own .styles) (own .inv) (fits start)
+    fill-next (s l) (a .cues .now) (a .regions .now) (a .styles .now) (own .at) (from l) (stop l) (found l) (own .n) (own .cues) (own .regions) (own .styles) (own .inv .0) (fits start)
 
 is-last-requires : tie.Need-is-last-requires Inv-loop μ-loop
 is-last-requires c κs = search needs
 
 same-length-4 : tie.Need-same-length-4 Inv-loop μ-loop
-same-length-4 c = let stored = c .before .before .before .before .before in stored .put .kept .1 .1 .1 .1 .0 ∙ lengths (at (stored .before .before .before .before .before)) .0
+same-length-4 c = let stored = c .before .before .before .before .before .before in stored .put .kept .1 .1 .1 .1 .1 .0 ∙ lengths (at (stored .before .before .before .before .before .before)) .0
 
 same-length-5 : tie.Need-same-length-5 Inv-loop μ-loop
-same-length-5 c = let stored = c .before .before .before .before .before in stored .put .kept .1 .1 .1 .1 .1 .0 ∙ lengths (at (stored .before .before .before .before .before)) .1
+same-length-5 c = let stored = c .before .before .before .before .before .before in stored .put .kept .1 .1 .1 .1 .1 .1 .0 ∙ lengths (at (stored .before .before .before .before .before .before)) .1
 
 same-length-6 : tie.Need-same-length-6 Inv-loop μ-loop
-same-length-6 c = let stored = c .before .before .before .before .before in stored .put .kept .1 .1 .1 .1 .1 .1 .0 ∙ lengths (at (stored .before .before .before .before .before)) .2
+same-length-6 c = let stored = c .before .before .before .before .before .before in stored .put .kept .1 .1 .1 .1 .1 .1 .1 .0 ∙ lengths (at (stored .before .before .before .before .before .before)) .2
 
 returns-2 : tie.Need-returns-2 Inv-loop μ-loop
 returns-2 c =
-    let stored = c .before .before .before .before .before in
-    let l = stored .before .before .before .before .before in
+    let stored = c .before .before .before .before .before .before in
+    let l = stored .before .before .before .before .before .before in
     let start = at l .before .before in
     let a = start .args in
-    let told = stored .put .ensures .1 in
+    let told = stored .put .ensures .1 .1 in
     let none = last (s l) (at l .loop .at) (from l) (stop l) (found l) (sym (c .before .is-last .ensures) ∙ c .if1 .taken) in
     let full = fill-end (s l) (a .cues .now) (a .regions .now) (a .styles .now) (fits start) _ _ _ _ _ (more stored) none in
     rw (told .0, told .1 .0, told .1 .1) (full .0, (full .1, full .2))
 
 with-kind-requires : tie.Need-with-kind-requires Inv-loop μ-loop
 with-kind-requires c κs =
-    let at = c .before .before .before .before .before .before .before .before .before .before .before .before .before in
-    let inv = at .loop .inv in
+    let at = c .before .before .before .before .before .before .before .before .before .before .before .before .before .before .before in
+    let inv = at .loop .inv .0 in
     let pre = at .before .before .pre .0 in
     (omega (arith, inv .cues-most, inv .inside, pre .1), omega (arith, inv .regions-most, inv .inside, pre .1), omega (arith, inv .styles-most, inv .inside, pre .1))
 
 loop-less : tie.Need-loop-less Inv-loop μ-loop
 loop-less c =
-    let l = c .before .before .before .before .before .before .before .before .before .before .before in
+    let l = c .before .before .before .before .before .before .before .before .before .before .before .before .before in
     omega (arith, moves (s l) (at l .loop .at) (from l) (stop l) (found l), found l .block .inside)
 
 loop-again : tie.Need-loop-again Inv-loop μ-loop
 loop-again c =
-    let stored = c .before .before .before .before .before .before in
+    let stored = c .before .before .before .before .before .before .before in
     let told = stored .put .ensures in
-    rw (c .with-kind .ensures, told .0, told .1 .0, told .1 .1 .0, told .1 .1 .1) (more stored)
+    let own = at (stored .before .before .before .before .before .before) .loop in (
+      rw (c .with-kind .ensures, told .0, told .1 .1 .0, told .1 .1 .1 .0, told .1 .1 .1 .1) (more stored),
+      stored .put .kept .1 .1 .1 .1 .0 ∙ own .inv .1,
+      rw (c .with-kind .ensures, told .0) (told .1 .0),
+    )
 
 pub fill-spec : {M : Type 1} → statement M
-fill-spec = tie.close (tie.spec Inv-loop μ-loop loop-holds next-block-requires enum-known-next enum-told same-length same-length-2 same-length-3 returns put-requires is-last-requires same-length-4 same-length-5 same-length-6 returns-2 with-kind-requires loop-less loop-again)
+fill-spec = tie.close (tie.spec Inv-loop μ-loop loop-holds next-block-requires enum-known-next enum-told same-length same-length-2 same-length-3 returns slice-aggregate-put put-requires is-last-requires same-length-4 same-length-5 same-length-6 returns-2 with-kind-requires loop-less loop-again)

@@ -1,10 +1,8 @@
--- `writable::part` meets its contract.
-use mathlib.Core.Path.{sym, _∙_}
-use Rattle.lookup.proofs.NameLaws.{part-bytes}
-use Rattle.writable.proofs.NameLaws.{bytesAt-partOf}
+-- `values::bytes::part` meets its contract.
+use Rattle.values.proofs.CutLaws.{cut-is}
 use borrow.Author.Needs.{needs}
-use Rattle.writable.proofs.part.Statement.{statement}
-use Rattle.writable.proofs.part.Tie as tie
+use Rattle.values.proofs.bytes.part.Statement.{statement}
+use Rattle.values.proofs.bytes.part.Tie as tie
 
 least-requires : tie.Need-least-requires
 least-requires c κs = search needs
@@ -26,8 +24,7 @@ returns c =
     let start = c .before in
     let end = start .before in
     let a = end .before .before .args in
-    part-bytes (a .text .now) (a .from) (a .to) (end .least .result) (start .least2 .result) (end .least .ensures) (start .least2 .ensures)
-    ∙ sym (bytesAt-partOf (a .text .now) (a .from) (a .to))
+    cut-is (a .text .now) (a .from) (a .to) (end .least .result) (start .least2 .result) (end .least .ensures) (start .least2 .ensures)
 
 pub part-spec : {M : Type 1} → statement M
 part-spec =

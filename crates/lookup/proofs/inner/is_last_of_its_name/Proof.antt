@@ -1,20 +1,15 @@
--- `writable::is_last_of_its_name` meets its contract.
-use Rattle.format.specs.RegionSettings.{lastNamed}
-use Rattle.format.specs.Rows.{regionEntry, indexIs}
-use Rattle.format.specs.Texts.{bytesAt}
-use Rattle.values.specs.Tokens.{partOf}
+-- `lookup::inner::is_last_of_its_name` meets its contract.
 use mathlib.Core.Path.{_≡_, sym, ap, _∙_}
-use mathlib.Core.List.{[], map}
-use lib.ListN.{length, getD, take}
+use mathlib.Core.List.{[]}
+use lib.ListN.{length, getD}
+use Rattle.format.specs.Texts.{bytesAt}
 use Rattle.format.specs.Contents.{optionOf, regionOfEntry}
 use Rattle.format.specs.Writable.{namesOf, isIndex, lastOfItsName}
-use Rattle.writable.proofs.NameLaws.{nameAt, no-region, no-name, last-is}
+use Rattle.format.specs.LookingUp.{lookUp}
+use Rattle.lookup.proofs.NameLaws.{nameAt, no-region, no-name, last-is}
 use borrow.Author.Needs.{needs}
-use Rattle.writable.proofs.is_last_of_its_name.Statement.{statement}
-use Rattle.writable.proofs.is_last_of_its_name.Tie as tie
-use Rattle.lookup.proofs.find_region.Reads as find-region-reads
-use Rattle.rows.proofs.regions.id.Reads as id-reads
-use Rattle.writable.proofs.part.Reads as part-reads
+use Rattle.lookup.proofs.inner.is_last_of_its_name.Statement.{statement}
+use Rattle.lookup.proofs.inner.is_last_of_its_name.Tie as tie
 
 -- the name that the code cuts out
 name-is :
@@ -29,24 +24,23 @@ name-is c =
 answer :
     (c : tie.After-find-region)
     → let a = c .before .before .before .before .before .before .before .args in
-    lastOfItsName (namesOf (a .text .now) (a .regions .now)) (a .index) ≡ isIndex (optionOf (c .find-region .result)) (a .index)
+    isIndex (optionOf (c .find-region .result .index)) (a .index) ≡ lastOfItsName (namesOf (a .text .now) (a .regions .now)) (a .index)
 answer c =
     let cut = c .before .before in
     let out = cut .before .before .before in
     let a = out .before .before .args in
-    let s = a .text .now in
-    let names = map (λ row. partOf s (regionEntry row .id .from) (regionEntry row .id .to) .bytes) (take (length (a .regions .now)) (a .regions .now)) in
+    let names = namesOf (a .text .now) (a .regions .now) in
     last-is
-    s
+    (a .text .now)
     (a .regions .now)
     (a .index)
     (out .if1 .left)
     (λ z. c .before .if2 .left (ap length (name-is cut) ∙ z))
-    (c .find-region .result)
-    (c .find-region .ensures ∙ ap (λ p. indexIs (lastNamed 0 (partOf s (p .from) (p .to) .bytes) names)) (cut .before .id .ensures))
+    (c .find-region .result .index)
+    (ap (λ f. f .index) (c .find-region .ensures .0) ∙ ap (λ x. lookUp x names .index) (name-is cut))
 
 returns : tie.Need-returns
-returns c = let a = c .before .before .args in sym (no-region (a .text .now) (a .regions .now) (a .index) (c .if1 .taken))
+returns c = let a = c .before .before .args in no-region (a .text .now) (a .regions .now) (a .index) (c .if1 .taken)
 
 mul-id : tie.Need-mul-id
 mul-id c = search needs
@@ -64,7 +58,7 @@ returns-2 : tie.Need-returns-2
 returns-2 c =
     let out = c .before .before .before .before in
     let a = out .before .before .args in
-    sym (no-name (a .text .now) (a .regions .now) (a .index) (out .if1 .left) (sym (ap length (name-is (c .before))) ∙ c .if2 .taken))
+    no-name (a .text .now) (a .regions .now) (a .index) (out .if1 .left) (sym (ap length (name-is (c .before))) ∙ c .if2 .taken)
 
 find-region-requires : tie.Need-find-region-requires
 find-region-requires c κs = search needs
@@ -72,16 +66,16 @@ find-region-requires c κs = search needs
 enum-told : tie.Need-enum-told
 enum-told c = search needs
 
-enum-known-found : tie.Need-enum-known-found
-enum-known-found c = search needs
+enum-known-place : tie.Need-enum-known-place
+enum-known-place c = search needs
 
 returns-3 : tie.Need-returns-3
 unfolding optionOf isIndex
-returns-3 c = sym (answer (c .before .before) ∙ rw (c .enum-told .given .1))
+returns-3 c = rw (c .enum-told .given .1) at (answer (c .before .before))
 
 returns-4 : tie.Need-returns-4
 unfolding optionOf isIndex
-returns-4 c = sym (answer (c .before .before .before) ∙ rw (c .before .found .given .1))
+returns-4 c = rw (c .before .place .given .1) at (answer (c .before .before .before))
 
 pub is-last-of-its-name-spec : {M : Type 1} → statement M
 is-last-of-its-name-spec =
@@ -95,6 +89,6 @@ is-last-of-its-name-spec =
     returns-2
     find-region-requires
     enum-told
-    enum-known-found
+    enum-known-place
     returns-3
     returns-4)

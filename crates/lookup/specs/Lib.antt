@@ -1,0 +1,2 @@
+-- What the contracts of the look-up say beyond `format`.
+pub mod Known
