@@ -111,6 +111,12 @@ uint64_t spatz_identifier(const uint8_t *text, size_t text_length, const uint64_
 uint64_t spatz_text(const uint8_t *text, size_t text_length, const uint64_t (*cues)[SPATZ_CUE_WORDS], size_t cue_rows, size_t number,
                     uint64_t values[8]);
 
+/* The last of these regions whose identifier is this name, looked for from the last to the first. Never refused: any rows are taken, and an
+ * identifier is held to the text; the name is bytes of its own. Values: 1 where one is found and 0 where none is; its index, 0 where none is;
+ * how many regions were looked at. */
+uint64_t spatz_find_region(const uint8_t *text, size_t text_length, const uint64_t (*regions)[SPATZ_REGION_WORDS], size_t region_rows,
+                           const uint8_t *name, size_t name_length, uint64_t values[8]);
+
 /* The nodes of one cue's text, as rows at the start of the table, their strings at the start of `room`, which never need more bytes than
  * the text has. Accepted: rows and bytes used. A refusal (1, 3, 5, 2, 6) changes neither. A text of over 786,432 bytes takes 7 MB of stack. */
 uint64_t spatz_tree(const uint8_t *text, size_t text_length, uint8_t *room, size_t room_length, uint64_t (*nodes)[SPATZ_NODE_WORDS],

@@ -48,6 +48,15 @@ impl Region<&str> {
     }
 }
 
+/// What the look-up of a region by its name gives.
+#[derive(Clone, Copy, Debug, PartialEq, Eq)]
+pub struct Found {
+    /// The region's index in the file's list.
+    pub index: Option<usize>,
+    /// How many regions were looked at: from the last of them to the one that is found, which counts too, or all.
+    pub seen: usize,
+}
+
 /// A file that was read.
 #[derive(Clone, Debug, PartialEq, Eq)]
 pub struct File {
@@ -166,6 +175,23 @@ impl File {
     /// The regions, in the file's order.
     pub fn regions(&self) -> impl ExactSizeIterator<Item = Region<&str>> {
         self.regions.iter().map(|row| Region { identifier: self.part(row[0], row[1]), area: area_of(row) })
+    }
+
+    /// The region whose identifier is this name. The later of two regions with the same identifier counts, here as where a cue names them. An
+    /// empty name finds the last region without an identifier, which no cue can name.
+    ///
+    /// ```
+    /// use spatzenherd::{File, Found};
+    /// let file = File::read(b"WEBVTT\n\nREGION\nid:low\nlines:2\n\nREGION\nid:low\nlines:4\n\nREGION\nid:top\n")?;
+    /// assert_eq!(file.find_region("low"), Found { index: Some(1), seen: 2 });
+    /// assert_eq!(file.regions().nth(1).map(|region| region.area.lines), Some(4));
+    /// assert_eq!(file.find_region("left"), Found { index: None, seen: 3 });
+    /// # Ok::<(), spatzenherd::Refusal>(())
+    /// ```
+    pub fn find_region(&self, name: impl AsRef<[u8]>) -> Found {
+        let mut values = [0; 8];
+        lent::find_region(self.text.as_bytes(), &self.regions, name.as_ref(), &mut values);
+        Found { index: (values[0] == 1).then_some(values[1] as usize), seen: values[2] as usize }
     }
 
     /// The style texts, in the file's order.

@@ -63,6 +63,15 @@ mod boundary {
             number: usize,
             values: *mut Values,
         ) -> u64;
+        pub fn spatz_find_region(
+            text: *const u8,
+            text_length: usize,
+            regions: *const RegionRow,
+            region_rows: usize,
+            name: *const u8,
+            name_length: usize,
+            values: *mut Values,
+        ) -> u64;
         pub fn spatz_tree(
             text: *const u8,
             text_length: usize,
@@ -182,6 +191,13 @@ pub fn identifier(text: &[u8], cues: &[CueRow], number: usize, values: &mut Valu
 /// Where the text of a cue stands in the text. Values: from, to.
 pub fn text(text: &[u8], cues: &[CueRow], number: usize, values: &mut Values) -> u64 {
     unsafe { boundary::spatz_text(text.as_ptr(), text.len(), cues.as_ptr(), cues.len(), number, values) }
+}
+
+/// The last of these regions whose identifier is this name, looked for from the last to the first. Values: 1 where one is found and 0 where none
+/// is; its index, 0 where none is; how many regions were looked at. It never refuses: any rows are taken, over any text. An identifier ends at
+/// the text's end at the latest and begins at its own end at the latest, and an empty name finds an empty identifier.
+pub fn find_region(text: &[u8], regions: &[RegionRow], name: &[u8], values: &mut Values) -> u64 {
+    unsafe { boundary::spatz_find_region(text.as_ptr(), text.len(), regions.as_ptr(), regions.len(), name.as_ptr(), name.len(), values) }
 }
 
 /// The nodes of one cue's text go to the start of the table, their strings to the start of `room`. Values: rows and bytes used.

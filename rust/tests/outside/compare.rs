@@ -1,6 +1,6 @@
 //! Every function over lent memory against the papers, on generated files and damaged public files: the number, the values, and all of the
 //! memory lent, with rooms and tables of the exact length, one short, empty and longer.
-use crate::generate::{cue_text, damage, damage_row, file, long_file, new_cue};
+use crate::generate::{any_regions, cue_text, damage, damage_row, file, long_file, named_file, new_cue};
 use crate::lent::Lent;
 use crate::papers::{self, CueRow, Lists, Refusal, RegionRow, StyleRow};
 use crate::random::Random;
@@ -109,6 +109,30 @@ impl Case {
         self.answer("text", text, told, &values, expected.as_ref().map(|&(from, to)| vec![from, to]));
     }
 
+    fn find_region(&mut self, text: &[u8], regions: &[RegionRow], name: &[u8]) {
+        let expected = papers::find_region(text, regions, name);
+        let mut values = Lent::values(&mut self.random);
+        let number = lent::find_region(text, regions, name, values.eight());
+        let told = [usize::from(expected.index.is_some()), expected.index.unwrap_or(0), expected.seen].map(|n| n as u64);
+        let what = format!("find_region {:?}", String::from_utf8_lossy(&name[..name.len().min(40)]));
+        self.answer(&what, text, number, &values, Ok(told.to_vec()));
+    }
+
+    /// Names that are there or nearly there, those that cues ask for, and two more, among all of these regions and among the first few.
+    fn finding(&mut self, text: &[u8], regions: &[RegionRow]) {
+        let mut names: Vec<&[u8]> = vec![b"", b"\xFF"];
+        names.extend(text.split(u8::is_ascii_whitespace).filter_map(|word| word.strip_prefix(b"region:")).take(20));
+        for row in regions.iter().take(20) {
+            let (name, longer) = (papers::between(text, row[0], row[1]), papers::between(text, row[0], row[1].saturating_add(1)));
+            names.extend([name, longer, &name[..name.len().saturating_sub(1)]]);
+        }
+        let fewer = self.random.below(regions.len() + 1);
+        for name in names {
+            self.find_region(text, regions, name);
+            self.find_region(text, &regions[..fewer], &name.to_vec());
+        }
+    }
+
     fn write(&mut self, text: &[u8], styles: &[StyleRow], regions: &[RegionRow], cues: &[CueRow], out_length: usize) {
         let expected = papers::write(text, styles, regions, cues, out_length);
         let (mut out, mut values) = (Lent::new(out_length, &mut self.random), Lent::values(&mut self.random));
@@ -185,6 +209,10 @@ impl Case {
         for row in lists.cues.iter().take(20) {
             self.tree_in_rooms(&text[row[4] as usize..row[5] as usize]);
         }
+        self.finding(&text, &lists.regions);
+        self.finding(&text, &[lists.regions.as_slice(), &lists.regions].concat());
+        let anyones = any_regions(&mut self.random, raw.len());
+        self.finding(raw, &anyones);
         self.rows(&text, lists, raw.len());
         for _ in 0..3 {
             self.replacing(raw, text.len(), cues);
@@ -300,6 +328,12 @@ fn small_files() {
         }
         raw
     });
+}
+
+/// More names than a call remembers, some of which take each other's place.
+#[test]
+fn named_files() {
+    compare((number_from("SPATZENHERD_FILES", 20_000) / 1000).max(1), "files of names", |random, _| named_file(random));
 }
 
 #[test]

@@ -374,6 +374,39 @@ pub fn damage_row(random: &mut Random, row: &mut [u64]) {
     };
 }
 
+/// A file whose cues name regions, by few or by many names: some are of no region, and some of several.
+pub fn named_file(random: &mut Random) -> Vec<u8> {
+    let (names, regions, cues) = (1 + random.below(700), random.below(300), random.below(500));
+    let mut text = String::from("WEBVTT\n\n");
+    for _ in 0..regions {
+        text.push_str(&format!("REGION\nid:r{}\n\n", random.below(names)));
+    }
+    for _ in 0..cues {
+        let name = random.below(names + names / 4 + 1);
+        text.push_str(&format!("00:00.000-->00:01.000{}\n", if random.once_in(9) { String::new() } else { format!(" region:r{name}") }));
+    }
+    text.into_bytes()
+}
+
+/// Rows of regions that nobody read, over a text of this length. Their identifiers are mostly short parts of it, and some rows come more than once.
+pub fn any_regions(random: &mut Random, length: usize) -> Vec<papers::RegionRow> {
+    let mut rows: Vec<papers::RegionRow> = Vec::new();
+    for count in 0..random.below(7) {
+        if count > 0 && random.once_in(3) {
+            rows.push(rows[random.below(count)]);
+            continue;
+        }
+        let mut row: papers::RegionRow = std::array::from_fn(|_| random.word());
+        row[0] = random.below(length + 2) as u64;
+        row[1] = row[0] + random.below(6) as u64;
+        for _ in 0..random.below(3) {
+            damage_row(random, &mut row[..2]);
+        }
+        rows.push(row);
+    }
+    rows
+}
+
 /// A new cue: a row of words over a text of its own. Most of them are writable.
 pub fn new_cue(random: &mut Random) -> (Vec<u64>, Vec<u8>) {
     let mut text = b"xyz".to_vec();

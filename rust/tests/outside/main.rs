@@ -6,6 +6,7 @@
 mod callers;
 mod compare;
 mod decoding;
+mod finding;
 mod generate;
 mod lent;
 mod limits;

@@ -52,6 +52,10 @@ fn compare_lists(seed: u64, text: &str, file: &File, lists: &Lists) {
             "seed {seed}"
         );
     }
+    for name in lists.regions.iter().map(|row| part(row[0], row[1])).chain(["", "fred"]) {
+        let (found, expected) = (file.find_region(name), papers::find_region(text.as_bytes(), &lists.regions, name.as_bytes()));
+        assert_eq!((found.index, found.seen), (expected.index, expected.seen), "seed {seed}");
+    }
     for (found, row) in file.styles().zip(&lists.styles) {
         assert_eq!(found, part(row[0], row[1]), "seed {seed}");
     }

@@ -1,5 +1,8 @@
 //! Measures the proved functions and prints the tables of docs/SPEED.md. Every time is a ratio to a bare scan of the same bytes for LF and
 //! `-->` in the same run, the best of some runs: `cargo run --release --bin bench`, with words of a table's title to choose tables.
+//!
+//! `bench regions` is a table of its own, of files whose cues name regions; letters after it, `bench regions aeg`, choose files. Some of them can
+//! take ten minutes, so it is measured only where it is asked for.
 mod samples;
 
 use spatzenherd::lent::{self, CueRow, RegionRow, StyleRow};
@@ -66,7 +69,8 @@ fn scanning(bytes: &[u8]) -> f64 {
     scans.map(time).into_iter().fold(f64::INFINITY, f64::min)
 }
 
-/// Seconds that a call takes: the best of five runs, each of as many calls as take some hundredths of a second.
+/// Seconds that a call takes: the best of five runs, each of as many calls as take some hundredths of a second; one call that takes more than ten
+/// seconds is enough.
 fn seconds(mut call: impl FnMut()) -> f64 {
     let mut once = || {
         let start = Instant::now();
@@ -74,6 +78,9 @@ fn seconds(mut call: impl FnMut()) -> f64 {
         start.elapsed().as_secs_f64()
     };
     let first = once();
+    if first > 10.0 {
+        return first;
+    }
     let calls = (0.02 / first.max(1e-9)).ceil().clamp(1.0, 100_000.0) as usize;
     let runs = if first > 2.0 { 1 } else { 5 };
     let mean = |once: &mut dyn FnMut() -> f64| (0..calls).map(|_| once()).sum::<f64>() / calls as f64;
@@ -106,14 +113,24 @@ impl Read {
     }
 }
 
-/// One row of a table: the scan's speed, then each time as a ratio to the scan's, with its speed.
+/// MB/s, with as many decimals as a slow call needs.
+fn speed(bytes: usize, time: f64) -> String {
+    let speed = bytes as f64 / time / 1e6;
+    format!("{speed:.*}", if speed < 9.5 { 2 } else { 0 })
+}
+
+/// A time as a ratio to the scan's, with its speed.
+fn cell(bytes: usize, scanned: f64, time: f64) -> String {
+    format!("{:.1} ({})", time / scanned, speed(bytes, time))
+}
+
+/// One row of a table: the scan's speed, then its cells.
+fn line(name: &str, bytes: usize, scanned: f64, cells: &[String]) {
+    println!("| {name} | {} | {} |", speed(bytes, scanned), cells.join(" | "));
+}
+
 fn row(name: &str, bytes: usize, scanned: f64, times: &[f64]) {
-    let speed = |t: f64| bytes as f64 / t / 1e6;
-    print!("| {name} | {:.0} |", speed(scanned));
-    for &time in times {
-        print!(" {:.1} ({:.0}) |", time / scanned, speed(time));
-    }
-    println!();
+    line(name, bytes, scanned, &times.iter().map(|&time| cell(bytes, scanned, time)).collect::<Vec<_>>());
 }
 
 fn heading(title: &str, columns: &[&str]) {
@@ -231,13 +248,39 @@ fn worst_texts() {
     }
 }
 
+/// Reading in one call, and writing what was read where it can be written.
+fn regions(letters: &str) {
+    heading("Cues that name regions", &["read, in one call", "seconds", "write", "seconds"]);
+    for (letter, name, raw) in samples::named_regions() {
+        if !letters.is_empty() && !letters.contains(letter) {
+            continue;
+        }
+        let scanned = scanning(&raw);
+        let mut file = Read::of(&raw);
+        let mut room = vec![0; 3 * raw.len()];
+        eprintln!("{letter}: reading {} bytes, {} regions and {} cues", raw.len(), file.regions.len(), file.cues.len());
+        let read = seconds(|| {
+            assert_eq!(lent::read_file(&raw, &mut room, &mut file.cues, &mut file.regions, &mut file.styles, &mut [0; 8]), 0);
+        });
+        eprintln!("{letter}: {read:.3} seconds; writing");
+        let (mut out, mut refused) = (vec![0; MAX_FILE], 0);
+        let write = seconds(|| refused = lent::write(&file.text, &file.styles, &file.regions, &file.cues, &mut out, &mut [0; 8]));
+        let cells = |time: f64| [cell(raw.len(), scanned, time), format!("{time:.3}")];
+        let written = if refused == 0 { cells(write) } else { [format!("refused by {refused}"), String::new()] };
+        line(&format!("{letter}: {name}"), raw.len(), scanned, &[cells(read), written].concat());
+    }
+}
+
 fn main() {
     let chosen: Vec<String> = std::env::args().skip(1).collect();
     let tables: [(&str, fn()); 4] = [("episodes", episodes), ("worst", worst), ("converting", converting), ("texts", worst_texts)];
-    let run = move || {
-        for (name, table) in tables {
-            if chosen.is_empty() || chosen.iter().any(|word| word == name) {
-                table();
+    let run = move || match chosen.split_first() {
+        Some((word, letters)) if word == "regions" => regions(&letters.concat()),
+        _ => {
+            for (name, table) in tables {
+                if chosen.is_empty() || chosen.iter().any(|word| word == name) {
+                    table();
+                }
             }
         }
     };

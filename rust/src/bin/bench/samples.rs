@@ -23,9 +23,13 @@ const TEXTS: [&str; 6] = [
 
 /// An episode of about this many bytes: two regions, a style, a comment now and then, and cues one second apart.
 pub fn episode(length: usize, line_end: &str) -> Vec<u8> {
-    let mut file = String::from(
-        "WEBVTT - episode\n\nSTYLE\n::cue(.loud) { color: red }\n\nREGION\nid:low\nlines:2\n\nREGION\nid:top\nregionanchor:0%,0%\n\n",
-    );
+    let regions = "REGION\nid:low\nlines:2\n\nREGION\nid:top\nregionanchor:0%,0%\n\n";
+    episode_with(regions, settings, length).replace('\n', line_end).into_bytes()
+}
+
+/// An episode with these regions, and with these settings on its timing lines.
+fn episode_with(regions: &str, settings: fn(usize) -> &'static str, length: usize) -> String {
+    let mut file = format!("WEBVTT - episode\n\nSTYLE\n::cue(.loud) {{ color: red }}\n\n{regions}");
     let mut cue = 0;
     while file.len() < length {
         let time = |t: usize| format!("{:02}:{:02}:{:02}.{:03}", t / 3_600_000, t / 60_000 % 60, t / 1000 % 60, t % 1000);
@@ -39,7 +43,7 @@ pub fn episode(length: usize, line_end: &str) -> Vec<u8> {
         file.push_str(&format!("{} --> {}{}\n{}\n\n", time(start), time(start + 900), settings(cue), TEXTS[cue % TEXTS.len()]));
         cue += 1;
     }
-    file.replace('\n', line_end).into_bytes()
+    file
 }
 
 /// A file that is filled with copies of some bytes up to the greatest length.
@@ -62,6 +66,39 @@ pub fn regions(regions: usize, cues: usize) -> Vec<u8> {
         file.push_str(&format!("00:00.000 --> 00:01.000 region:r{:06}\nx\n\n", cue * 7919 % regions));
     }
     file.into_bytes()
+}
+
+/// Regions that all have one identifier, and lines of cues without a text, each with the name that is made for its number.
+fn other_names(identifier: &str, regions: usize, cues: usize, name: impl Fn(usize) -> String) -> Vec<u8> {
+    let mut file = "WEBVTT\n\n".to_string() + &format!("REGION\nid:{identifier}\n\n").repeat(regions);
+    (0..cues).for_each(|cue| file.push_str(&format!("00:00.000-->00:01.000 region:{}\n", name(cue))));
+    file.into_bytes()
+}
+
+/// 3,600 names of two characters, in turn: each is asked for again when it is long forgotten. None of them has a `z`.
+fn two_characters(number: usize) -> String {
+    let characters = b"0123456789ABCDEFGHIJKLMNOPQRSTUVWXYabcdefghijklmnopqrstuvwxy";
+    [60, 1].map(|power| characters[number / power % 60] as char).iter().collect()
+}
+
+/// Files whose cues name regions, each with its letter and its name. Where a name is of no region, all of them have to be looked at.
+pub fn named_regions() -> Vec<(char, &'static str, Vec<u8>)> {
+    // Half of the greatest length for the regions, of 13 or 14 bytes, and half for the cues, of 31 or 32.
+    let (half_regions, half_cues) = (645_277, 270_600);
+    let absent = other_names("a", half_regions, half_cues, |_| "b".into());
+    assert_eq!(absent.len(), 16_777_209);
+    let four_regions: String = ["top", "low", "left", "right"].map(|name| format!("REGION\nid:{name}\nlines:2\n\n")).concat();
+    let in_turn = |cue: usize| [" region:top", " region:low", " region:left", " region:right"][cue % 4];
+    vec![
+        ('a', "10^5 regions `a`, 10^5 cues that name `b`", other_names("a", 100_000, 100_000, |_| "b".into())),
+        ('b', "16 MB of regions `a` and cues that name `b`", absent),
+        ('c', "as b, the cues name `b` and `c` in turn", other_names("a", half_regions, half_cues, |cue| ["b", "c"][cue % 2].into())),
+        ('d', "16 MB of regions `zz` and cues that name 3,600 others in turn", other_names("zz", 599_186, 262_143, two_characters)),
+        ('e', "10^5 regions, 10^4 cues that name them", regions(100_000, 10_000)),
+        ('f', "10^4 regions, 10^4 cues that name one each", regions(10_000, 10_000)),
+        ('g', "an episode of 1 MB, 4 regions in turn", episode_with(&four_regions, in_turn, 1_000_000).into_bytes()),
+        ('h', "10^3 regions `zz`, 16 MB of cues that name 3,600 others in turn", other_names("zz", 1000, 523_800, two_characters)),
+    ]
 }
 
 /// The worst cases of reading, each with its name.

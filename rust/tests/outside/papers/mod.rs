@@ -4,6 +4,7 @@
 mod blocks;
 mod cue_text;
 mod model;
+mod names;
 mod numbers;
 mod parts;
 mod plain;
@@ -16,6 +17,7 @@ mod tree;
 mod writable;
 mod written;
 
+pub use names::{between, find_region, Found};
 pub use parts::{identifier, text};
 pub use plain::{convert, first_not_plain, plain_text};
 pub use reading::read;

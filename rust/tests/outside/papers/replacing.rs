@@ -2,7 +2,7 @@
 
 use super::blocks::{parse, ReadCue};
 use super::model::{Cue, Part, Region};
-use super::settings::last_region;
+use super::names::last_region;
 use super::writable::{cue_contents, cue_tests, part, Failed};
 use super::written::{cue_block, write};
 use super::{

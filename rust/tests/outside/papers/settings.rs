@@ -1,6 +1,7 @@
 //! "Collect WebVTT cue timings and settings" and "parse the WebVTT cue settings" (000 section 6.3).
 
 use super::model::{Region, Settings, ALIGN, HORIZONTAL, HUNDRED, LINE_ALIGN, POSITION_ALIGN, VERTICAL};
+use super::names::last_region;
 use super::numbers::{is_digit, is_space, line_number, percentage, Stored};
 use super::times::{collect_timestamp, expect, Time};
 
@@ -104,11 +105,6 @@ fn parse_settings(input: &[u8], text: &[u8], regions: &[Region], over: &mut bool
         }
     }
     settings
-}
-
-/// The last region whose identifier is this name, or none.
-pub fn last_region(name: &[u8], text: &[u8], regions: &[Region]) -> Option<u64> {
-    regions.iter().rposition(|region| region.identifier.of(text) == name).map(|index| index as u64)
 }
 
 fn vertical(value: &[u8], settings: &mut Settings) {
