@@ -32,7 +32,8 @@ enum spatz_refusal {
     SPATZ_OUT_TOO_SHORT = 10    /* the output room is shorter than the file: the length needed */
 };
 
-/* The words of a cue's row. A part is from a place of the text up to another; 0, 0 for none. Times are in milliseconds. */
+/* The words of a cue's row. A part is from a place of the text up to another; 0, 0 for none. Times are in milliseconds. The last two are the
+ * cue's lines in the file: reading stores them, and every other function takes any numbers there. */
 enum spatz_cue_word {
     SPATZ_CUE_ID_FROM = 0,
     SPATZ_CUE_ID_TO = 1,
@@ -51,11 +52,14 @@ enum spatz_cue_word {
     SPATZ_CUE_SIZE = 14,          /* a percentage in millionths */
     SPATZ_CUE_ALIGN = 15,         /* 0 start, 1 center, 2 end, 3 left, 4 right */
     SPATZ_CUE_REGION = 16,        /* 0 for none, else its index and one */
-    SPATZ_CUE_WORDS = 17
+    SPATZ_CUE_FIRST_LINE = 17,    /* the number of its identifier's line, or of its timing line where it has none, from 1 */
+    SPATZ_CUE_LINES = 18,         /* how many lines it has */
+    SPATZ_CUE_WORDS = 19
 };
 
-/* The row of a new cue: the words 0 to 15 of a cue's row, and then its region's name, a part of the text lent with it. */
-enum spatz_new_cue_word { SPATZ_NEW_CUE_NAME_FROM = 16, SPATZ_NEW_CUE_NAME_TO = 17, SPATZ_NEW_CUE_WORDS = 18 };
+/* The row of a new cue: the words 0 to 15 of a cue's row, then its region's name, a part of the text lent with it, and then two words for a
+ * cue's lines, which no function looks at. */
+enum spatz_new_cue_word { SPATZ_NEW_CUE_NAME_FROM = 16, SPATZ_NEW_CUE_NAME_TO = 17, SPATZ_NEW_CUE_WORDS = 20 };
 
 /* The words of a region's row. Percentages are in millionths. */
 enum spatz_region_word {

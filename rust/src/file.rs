@@ -1,8 +1,16 @@
 //! A file that was read: its plain text, and its lists as rows over it. What is handed out of it are views of that text; `to_owned` copies one.
-use crate::lent::{self, CueRow, RegionRow, StyleRow, Values};
+use crate::lent::{self, CueRow, RegionRow, StyleRow, Values, CUE_WORDS, REGION_WORDS, STYLE_WORDS};
 use crate::refusal::Refusal;
 use crate::settings::{area_of, area_words, settings_of, settings_words, Area, Settings};
 use crate::tree::Tree;
+
+/// The lines of a cue in the file that it was read from. The default, 0 and 0, is for a cue that was read from none.
+#[derive(Clone, Copy, Debug, Default, PartialEq, Eq)]
+pub struct LineSpan {
+    /// The number of its first line, counted from 1: its identifier's, or its timing line's where it has none.
+    pub first: u64,
+    pub count: u64,
+}
 
 /// A cue: `Cue<&str>` is a view of a file's text, `Cue` owns its strings.
 #[derive(Clone, Copy, Debug, Default, PartialEq, Eq)]
@@ -18,6 +26,8 @@ pub struct Cue<S = String> {
     pub settings: Settings,
     /// The index of its region in the file's list.
     pub region: Option<usize>,
+    /// Its lines in the file that it was read from. Writing does not look at them.
+    pub lines: LineSpan,
 }
 
 /// A region: `Region<&str>` is a view of a file's text, `Region` owns its identifier.
@@ -37,6 +47,7 @@ impl Cue<&str> {
             text: self.text.to_string(),
             settings: self.settings,
             region: self.region,
+            lines: self.lines,
         }
     }
 }
@@ -114,6 +125,7 @@ impl File {
     /// let file = spatzenherd::File::read(b"WEBVTT\r\n\r\n00:01.000 --> 00:02.500\r\nThe last tram.\r\n")?;
     /// let cue = file.cue(0)?;
     /// assert_eq!((cue.start, cue.end, cue.text), (1000, 2500, "The last tram."));
+    /// assert_eq!((cue.lines.first, cue.lines.count), (3, 2));
     /// # Ok::<(), spatzenherd::Refusal>(())
     /// ```
     pub fn read(raw: &[u8]) -> Result<File, Refusal> {
@@ -125,9 +137,9 @@ impl File {
             match number {
                 2 => text = vec![0; values[0] as usize],
                 6 => {
-                    cues = vec![[0; 17]; values[0] as usize];
-                    regions = vec![[0; 9]; values[1] as usize];
-                    styles = vec![[0; 2]; values[2] as usize];
+                    cues = vec![[0; CUE_WORDS]; values[0] as usize];
+                    regions = vec![[0; REGION_WORDS]; values[1] as usize];
+                    styles = vec![[0; STYLE_WORDS]; values[2] as usize];
                 }
                 _ => {
                     accepted(number, &values)?;
@@ -145,9 +157,9 @@ impl File {
         if asked != 6 {
             accepted(asked, &values)?;
         }
-        let mut cues = vec![[0; 17]; values[0] as usize];
-        let mut regions = vec![[0; 9]; values[1] as usize];
-        let mut styles = vec![[0; 2]; values[2] as usize];
+        let mut cues = vec![[0; CUE_WORDS]; values[0] as usize];
+        let mut regions = vec![[0; REGION_WORDS]; values[1] as usize];
+        let mut styles = vec![[0; STYLE_WORDS]; values[2] as usize];
         if asked == 6 {
             accepted(lent::read(text.as_bytes(), &mut cues, &mut regions, &mut styles, &mut values), &values)?;
         }
@@ -217,6 +229,7 @@ impl File {
             text: self.part(row[4], row[5]),
             settings: settings_of(row),
             region: row[16].checked_sub(1).map(|index| index as usize),
+            lines: LineSpan { first: row[17], count: row[18] },
         }
     }
 
@@ -257,7 +270,8 @@ pub(crate) fn cue_words(identifier: [u64; 2], times: [u64; 2], text: [u64; 2], s
     words
 }
 
-/// The file that has these lists, in the one written form: reading it gives them back. The first entry that cannot be written is refused by 8.
+/// The file that has these lists, in the one written form: reading it gives them back, each cue with its lines in that file. The first entry that
+/// cannot be written is refused by 8.
 ///
 /// ```
 /// use spatzenherd::{write, Cue};
@@ -271,9 +285,9 @@ pub fn write<S: AsRef<str>>(styles: &[S], regions: &[Region<S>], cues: &[Cue<S>]
     let regions: Vec<RegionRow> = regions
         .iter()
         .map(|region| {
-            let mut row = [0; 9];
+            let mut row = [0; REGION_WORDS];
             row[0..2].copy_from_slice(&text.put(region.identifier.as_ref()));
-            row[2..9].copy_from_slice(&area_words(&region.area));
+            row[2..].copy_from_slice(&area_words(&region.area));
             row
         })
         .collect();
@@ -281,7 +295,7 @@ pub fn write<S: AsRef<str>>(styles: &[S], regions: &[Region<S>], cues: &[Cue<S>]
         .iter()
         .map(|cue| {
             let parts = (text.put(cue.identifier.as_ref()), text.put(cue.text.as_ref()));
-            let mut row = [0; 17];
+            let mut row = [0; CUE_WORDS];
             row[0..16].copy_from_slice(&cue_words(parts.0, [cue.start, cue.end], parts.1, &cue.settings));
             row[16] = cue.region.map_or(0, |index| (index as u64).saturating_add(1));
             row

@@ -4,16 +4,27 @@
 //!
 //! `include/spatzenherd.h` says of each function what lent memory holds afterwards, `docs/LIBRARY.md` what the words of a row mean.
 
-/// The words of a cue's row.
-pub type CueRow = [u64; 17];
+/// How many words a cue's row has.
+pub const CUE_WORDS: usize = 19;
+/// How many words a region's row has.
+pub const REGION_WORDS: usize = 9;
+/// How many words a style's row has.
+pub const STYLE_WORDS: usize = 2;
+/// How many words a node's row has.
+pub const NODE_WORDS: usize = 7;
+/// How many words a new cue's row has.
+pub const NEW_CUE_WORDS: usize = 20;
+
+/// The words of a cue's row. The last two are its lines in the file: reading stores them, and every other function takes any numbers there.
+pub type CueRow = [u64; CUE_WORDS];
 /// The words of a region's row.
-pub type RegionRow = [u64; 9];
+pub type RegionRow = [u64; REGION_WORDS];
 /// The words of a style's row.
-pub type StyleRow = [u64; 2];
+pub type StyleRow = [u64; STYLE_WORDS];
 /// The words of a node's row.
-pub type NodeRow = [u64; 7];
-/// The words of a new cue's row.
-pub type NewCueRow = [u64; 18];
+pub type NodeRow = [u64; NODE_WORDS];
+/// The words of a new cue's row. No function looks at the last two.
+pub type NewCueRow = [u64; NEW_CUE_WORDS];
 /// The words that an answer's values are put into.
 pub type Values = [u64; 8];
 
@@ -227,7 +238,7 @@ pub fn write(text: &[u8], styles: &[StyleRow], regions: &[RegionRow], cues: &[Cu
 }
 
 /// The raw file with one cue replaced goes to the start of `out`. Value: its length. The new cue is a row over a text; a row of another count
-/// than 18 words is refused by 8, test 1.
+/// than [`NEW_CUE_WORDS`] is refused by 8, test 1.
 pub fn replace(raw: &[u8], number: usize, row: &[u64], text: &[u8], scratch: &mut [u8], out: &mut [u8], values: &mut Values) -> u64 {
     unsafe {
         boundary::spatz_replace(

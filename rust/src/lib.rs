@@ -16,7 +16,7 @@ mod settings;
 mod stack;
 mod tree;
 
-pub use file::{convert, rewrite, write, Cue, File, Found, Region};
+pub use file::{convert, rewrite, write, Cue, File, Found, LineSpan, Region};
 pub use refusal::{List, Refusal};
 pub use replacing::{replace, NewCue};
 pub use settings::{Align, Area, Line, LineAlign, PositionAlign, Scroll, Settings, Vertical, ALL, ONE};

@@ -1,6 +1,6 @@
 //! Replacing one cue of a raw file: that cue's own bytes change and nothing else.
 use crate::file::{accepted, cue_words, Joined};
-use crate::lent::{self, NewCueRow};
+use crate::lent::{self, NewCueRow, NEW_CUE_WORDS};
 use crate::refusal::Refusal;
 use crate::settings::Settings;
 
@@ -35,7 +35,7 @@ const TIMING_LINE: usize = 256;
 pub fn replace(raw: &[u8], number: usize, cue: &NewCue<'_>) -> Result<Vec<u8>, Refusal> {
     let mut text = Joined::default();
     let (identifier, words) = (text.put(cue.identifier), text.put(cue.text));
-    let mut row: NewCueRow = [0; 18];
+    let mut row: NewCueRow = [0; NEW_CUE_WORDS];
     row[0..16].copy_from_slice(&cue_words(identifier, [cue.start, cue.end], words, &cue.settings));
     row[16..18].copy_from_slice(&text.put(cue.region));
     let held = raw.len().min(crate::MAX_FILE);

@@ -1,5 +1,5 @@
 //! One cue's text read into its nodes.
-use crate::lent::{self, NodeRow};
+use crate::lent::{self, NodeRow, NODE_WORDS};
 use crate::refusal::Refusal;
 use crate::stack;
 
@@ -82,7 +82,7 @@ fn read_here(text: &[u8]) -> Result<Tree, Refusal> {
     let mut rows = vec![];
     let mut number = lent::tree(text, &mut room, &mut rows, &mut values);
     if number == 6 {
-        rows = vec![[0; 7]; values[0] as usize];
+        rows = vec![[0; NODE_WORDS]; values[0] as usize];
         number = lent::tree(text, &mut room, &mut rows, &mut values);
     }
     if number != 0 {

@@ -16,7 +16,7 @@ use Rattle.format.specs.Lines.{split, join, afterLineEnds}
 use Rattle.format.specs.TimingLines.{Timing, timingLine}
 use Rattle.format.specs.Blocks.{Line, linesAt, linePart, afterSignature, blocks, Collecting, between, header, inside, holdsArrow, canTime, stops, begin, goOn, collected, ended, next, blocksFrom, bytesOf, joined}
 use Rattle.format.specs.Lists.{nothing, cueOf, definition, meaning}
-use Rattle.format.specs.Replacing.{firstNumber}
+use Rattle.format.specs.LineNumbers.{firstNumber}
 use Rattle.laws.proofs.Tests.{by-test, and-swap, absent}
 use Rattle.laws.proofs.Lines.{unbroken, split-join}
 use Rattle.laws.proofs.Blocks.{blocks-stop}
@@ -24,9 +24,9 @@ use Rattle.laws.proofs.Runs.{run-next, run-take, run-length, run-at, run-after}
 use Rattle.values.proofs.NumberLaws.{is-empty-not}
 use Rattle.blocks.specs.declared.collecting.Head.{Head}
 use Rattle.blocks.specs.declared.collecting.Stop.{Stop}
-use Rattle.blocks.specs.Collecting.{lineEnds, linesFrom, headAfter, collectFrom, inLine, lineAt}
+use Rattle.blocks.specs.Collecting.{lineEnds, linesFrom, headAfter, moreLines, collectFrom, inLine, lineAt, isEnd}
 use Rattle.blocks.specs.Items.{part, afterLine, cueWith, definitionWith, meaningAt, BlockAt}
-use Rattle.blocks.proofs.LineLaws.{lineFrom, lines-next, lines-end, collect-line}
+use Rattle.blocks.proofs.LineLaws.{ends-next, ends-same, lineFrom, lines-next, lines-end, collect-line}
 
 -- how many of the next lines can be the timing line, after one line more
 nextLeft : ℕ → Bool → ℕ
@@ -163,6 +163,10 @@ record Took (s : List ℕ) (e : ℕ) (h : Head) (ls : List Line) : Type 0 where
   bytes : afterLineEnds (bytesOf (taken (h .left) ls)) ≡ slice s e (collectFrom h e ls .to)
   whole : unbroken (bytesOf (taken (h .left) ls)) ≡ true
   first : joined (taken (h .left) ls) ≡ cond (eqb e (collectFrom h e ls .to)) emptyPart (record { place = e + 1; bytes = join (bytesOf (taken (h .left) ls)) })
+  many : collectFrom h e ls .lines ≡ length (taken (h .left) ls)
+  numbers :
+      isEnd (collectFrom h e ls .why) ≡ false
+      → lineEnds (take (collectFrom h e ls .at) s) ≡ suc (lineEnds (take e s)) + collectFrom h e ls .lines
 
 last-line : (s : List ℕ) → fresh (linesFrom s (length s)) ≡ []
 unfolding blocksFrom collected isEmpty run
@@ -182,17 +186,21 @@ fresh-after s p l =
 collect-stop :
     (h : Head) (e : ℕ) (l : Line) (ms : List Line)
     → stopAt (h .left) l ≡ true
-    → (collectFrom h e (l ∷ ms) .at ≡ l .place) × (collectFrom h e (l ∷ ms) .to ≡ e) × (collectFrom h e (l ∷ ms) .head ≡ h)
+    → (collectFrom h e (l ∷ ms) .at ≡ l .place)
+    × (collectFrom h e (l ∷ ms) .to ≡ e)
+    × (collectFrom h e (l ∷ ms) .head ≡ h)
+    × (collectFrom h e (l ∷ ms) .lines ≡ 0)
 unfolding collectFrom stopAt
 collect-stop h e l ms y =
     by-test (isEmpty (l .bytes))
-    (λ a. rw a (refl, refl, refl))
-    (λ b. let k : eqb (h .left) 0 && holdsArrow (l .bytes) ≡ true = rw b at y in rw (b, k) (refl, refl, refl))
+    (λ a. rw a (refl, refl, refl, refl))
+    (λ b. let k : eqb (h .left) 0 && holdsArrow (l .bytes) ≡ true = rw b at y in rw (b, k) (refl, refl, refl, refl))
 
 collect-step :
     (h : Head) (e : ℕ) (l : Line) (ms : List Line)
     → stopAt (h .left) l ≡ false
-    → collectFrom h e (l ∷ ms) ≡ collectFrom (headAfter h (l .place + length (l .bytes)) (holdsArrow (l .bytes))) (l .place + length (l .bytes)) ms
+    → collectFrom h e (l ∷ ms)
+    ≡ moreLines 1 (collectFrom (headAfter h (l .place + length (l .bytes)) (holdsArrow (l .bytes))) (l .place + length (l .bytes)) ms)
 unfolding collectFrom stopAt
 collect-step h e l ms n =
     by-test (isEmpty (l .bytes))
@@ -222,6 +230,8 @@ took-end s e h q =
       bytes = sym (slice-none s e);
       whole = refl;
       first = rw (eq-eqb e e refl);
+      many = refl;
+      numbers = λ k. absurd (true≢false k);
     }
 
 took-stop :
@@ -229,10 +239,11 @@ took-stop :
     → linesFrom s (e + 1) ≡ l ∷ ms
     → l .place ≡ e + 1
     → e < length s
+    → getD s e 0 ≡ lf
     → stopAt (h .left) l ≡ true
     → Took s e h (l ∷ ms)
 unfolding afterLineEnds bytesOf joined unbroken
-took-stop s e h l ms q p i y =
+took-stop s e h l ms q p i c y =
     let st = collect-stop h e l ms y in
     let at : collectFrom h e (l ∷ ms) .at ≡ e + 1 = st .0 ∙ p in
     let none = lines-stop (h .left) l ms y in
@@ -244,6 +255,8 @@ took-stop s e h l ms q p i y =
       bytes = rw (none .0, st .1, slice-none s e);
       whole = rw (none .0);
       first = rw (none .0, st .1, eq-eqb e e refl);
+      many = rw (none .0, st .3);
+      numbers = λ k. rw (at, st .3) (omega (arith, ends-next s e i true (eq-eqb (getD s e 0) lf c)));
     }
 
 took-step :
@@ -261,7 +274,7 @@ took-step s e h ms i c n t =
     let e₂ = endAt s p in
     let h₂ = headAfter h e₂ (holdsArrow x) in
     let k : h₂ .left ≡ nextLeft (h .left) (holdsArrow x) = head-left h e₂ (holdsArrow x) in
-    let st : collectFrom h e (l ∷ ms) ≡ collectFrom h₂ e₂ ms = collect-step h e l ms n in
+    let st : collectFrom h e (l ∷ ms) ≡ moreLines 1 (collectFrom h₂ e₂ ms) = collect-step h e l ms n in
     let lines = lines-step (h .left) l ms n in
     let to = collectFrom h₂ e₂ ms .to in
     let more : slice s e to ≡ lf ∷ (x ++ slice s e₂ to) =
@@ -274,6 +287,8 @@ took-step s e h ms i c n t =
       bytes = rw (st, lines .0, sym k, t .bytes, more);
       whole = rw (lines .0, run-whole (drop p s), sym k) (t .whole);
       first = rw (st, lines .0, ne-eqb e to (λ q. absurd (omega (arith, t .not-before))));
+      many = rw (st, lines .0, sym k) (omega (arith, t .many));
+      numbers = rw st (λ k. omega (arith, t .numbers k, ends-same s p, ends-next s e i true (eq-eqb (getD s e 0) lf c)));
     }
 
 took : (s : List ℕ) (n e : ℕ) (h : Head) → length s < e + 1 + n → e ≤ length s → (e < length s → getD s e 0 ≡ lf) → Took s e h (linesFrom s (e + 1))
@@ -285,7 +300,7 @@ took s (suc n) e h f l c =
     let e₂ = endAt s (e + 1) in
     let lines = lines-next s (e + 1) e₂ (omega arith) refl in
     by-test (stopAt (h .left) (lineFrom s (e + 1)))
-    (λ stop. rw lines (took-stop s e h (lineFrom s (e + 1)) (linesFrom s (e₂ + 1)) lines refl i stop))
+    (λ stop. rw lines (took-stop s e h (lineFrom s (e + 1)) (linesFrom s (e₂ + 1)) lines refl i (c i) stop))
     (λ go. rw lines
     (took-step s e h (linesFrom s (e₂ + 1)) i (c i) go
     (took s n e₂ (headAfter h e₂ (holdsArrow x)) (omega arith) (line-inside s (e + 1) (omega arith)) (line-lf s (e + 1) (omega arith))))))
@@ -394,8 +409,8 @@ module _ (s : List ℕ) (from : ℕ) (i : from < length s) (b : inLine (getD s f
       st .head .first ≡ e₁
       → e₁ ≤ st .head .end
       → st .head .end ≤ st .to
-      → ((seen : Bool) → meaning seen (l₁ ∷ taken (h .left) after₁) ≡ meaningAt seen s from st)
-      → BlockAt s from st
+      → ((seen : Bool) → meaning seen (l₁ ∷ taken (h .left) after₁) ≡ meaningAt seen s from (moreLines 1 st))
+      → BlockAt s from (moreLines 1 st)
   unfolding leftOf firstNumber bytesOf join unbroken
   block h k f e t m =
       let tk = took₁ h in
@@ -412,6 +427,8 @@ module _ (s : List ℕ) (from : ℕ) (i : from < length s) (b : inLine (getD s f
         meant = m;
         begins = refl;
         covers = ap split text ∙ split-join x₁ more (rw (run-whole (drop from s)) (tk .whole));
+        counted = omega (arith, tk .many);
+        numbers = λ k. omega (arith, tk .numbers k, ends-same s from);
         starts = omega (arith, some₁, f);
         first-end = omega (arith, f);
         end-to = t;
@@ -422,7 +439,7 @@ module _ (s : List ℕ) (from : ℕ) (i : from < length s) (b : inLine (getD s f
   abbrev headFirst : Head
   headFirst = record { left = 0; first = e₁; end = e₁; timed = true }
 
-  first-timed : holdsArrow x₁ ≡ true → BlockAt s from (collectFrom headFirst e₁ after₁)
+  first-timed : holdsArrow x₁ ≡ true → BlockAt s from (moreLines 1 (collectFrom headFirst e₁ after₁))
   unfolding nextLeft meaningAt
   first-timed y =
       let hs = head-stays headFirst e₁ after₁ refl in
@@ -443,13 +460,13 @@ module _ (s : List ℕ) (from : ℕ) (i : from < length s) (b : inLine (getD s f
     stop₁ = collectFrom headOne e₁ after₁
 
     -- the first line is the only one
-    alone : stop₁ .head ≡ headOne → stop₁ .to ≡ e₁ → taken 1 after₁ ≡ [] → BlockAt s from stop₁
+    alone : stop₁ .head ≡ headOne → stop₁ .to ≡ e₁ → taken 1 after₁ ≡ [] → BlockAt s from (moreLines 1 stop₁)
     unfolding meaningAt
     alone hs t only =
         block headOne left₁ (ap (λ h. h .first) hs) (omega (arith, ap (λ h. h .end) hs)) (omega (arith, ap (λ h. h .end) hs, t))
         (λ seen. ap (λ r. meaning seen (l₁ ∷ r)) only ∙ meaning-one seen l₁ n ∙ rw (hs, t, eq-eqb e₁ e₁ refl))
 
-    at-end : length s ≤ e₁ → BlockAt s from stop₁
+    at-end : length s ≤ e₁ → BlockAt s from (moreLines 1 stop₁)
     unfolding collectFrom taken
     at-end k =
         let none = lines-end s (e₁ + 1) (omega arith) in
@@ -483,16 +500,16 @@ module _ (s : List ℕ) (from : ℕ) (i : from < length s) (b : inLine (getD s f
       took₂ : (h : Head) → Took s e₂ h after₂
       took₂ h = took s (length s) e₂ h (omega arith) (line-inside s (e₁ + 1) inside₂) lf₂
 
-      stopped : stopAt 1 l₂ ≡ true → BlockAt s from stop₁
+      stopped : stopAt 1 l₂ ≡ true → BlockAt s from (moreLines 1 stop₁)
       stopped y =
           let st = collect-stop headOne e₁ l₂ after₂ y in
           alone (ap (λ r. collectFrom headOne e₁ r .head) lines₂ ∙ st .2) (ap (λ r. collectFrom headOne e₁ r .to) lines₂ ∙ st .1)
           (ap (taken 1) lines₂ ∙ lines-stop 1 l₂ after₂ y .0)
 
       module _ (g : stopAt 1 l₂ ≡ false) where
-        step₂ : (a : Bool) → holdsArrow x₂ ≡ a → stop₁ ≡ collectFrom (headAfter headOne e₂ a) e₂ after₂
+        step₂ : (a : Bool) → holdsArrow x₂ ≡ a → stop₁ ≡ moreLines 1 (collectFrom (headAfter headOne e₂ a) e₂ after₂)
         step₂ a q =
-            ap (collectFrom headOne e₁) lines₂ ∙ collect-step headOne e₁ l₂ after₂ g ∙ ap (λ t. collectFrom (headAfter headOne e₂ t) e₂ after₂) q
+            ap (collectFrom headOne e₁) lines₂ ∙ collect-step headOne e₁ l₂ after₂ g ∙ ap (λ t. moreLines 1 (collectFrom (headAfter headOne e₂ t) e₂ after₂)) q
 
         taken₂ : taken 1 after₁ ≡ l₂ ∷ taken 0 after₂
         unfolding nextLeft
@@ -504,10 +521,10 @@ module _ (s : List ℕ) (from : ℕ) (i : from < length s) (b : inLine (getD s f
         abbrev headSecond : Head
         headSecond = record { left = 0; first = e₁; end = e₂; timed = true }
 
-        second-timed : holdsArrow x₂ ≡ true → BlockAt s from stop₁
+        second-timed : holdsArrow x₂ ≡ true → BlockAt s from (moreLines 1 stop₁)
         unfolding meaningAt
         second-timed y =
-            let st : stop₁ ≡ collectFrom headSecond e₂ after₂ = step₂ true y in
+            let st : stop₁ ≡ moreLines 1 (collectFrom headSecond e₂ after₂) = step₂ true y in
             let hs = head-stays headSecond e₂ after₂ refl in
             let tk = took₂ headSecond in
             let f = ap (λ h. h .first) hs in
@@ -527,10 +544,10 @@ module _ (s : List ℕ) (from : ℕ) (i : from < length s) (b : inLine (getD s f
         abbrev headNone : Head
         headNone = record { left = 0; first = e₁; end = e₁; timed = false }
 
-        untimed : holdsArrow x₂ ≡ false → BlockAt s from stop₁
+        untimed : holdsArrow x₂ ≡ false → BlockAt s from (moreLines 1 stop₁)
         unfolding meaningAt
         untimed m =
-            let st : stop₁ ≡ collectFrom headNone e₂ after₂ = step₂ false m in
+            let st : stop₁ ≡ moreLines 1 (collectFrom headNone e₂ after₂) = step₂ false m in
             let hs = head-stays headNone e₂ after₂ refl in
             let tk = took₂ headNone in
             let f = ap (λ h. h .first) hs in
@@ -544,7 +561,7 @@ module _ (s : List ℕ) (from : ℕ) (i : from < length s) (b : inLine (getD s f
             ∙ ap (λ x. definitionWith seen x (joined (l₂ ∷ taken 0 after₂))) (line-part s from inside₁)
             ∙ rw (text, st, hs, ne-eqb e₁ to (λ q. absurd (omega (arith, tk .not-before)))))
 
-    first-untimed : BlockAt s from stop₁
+    first-untimed : BlockAt s from (moreLines 1 stop₁)
     first-untimed =
         by-test (ltb e₁ (length s))
         (λ y. let k = ltb-true e₁ (length s) y in
@@ -581,7 +598,7 @@ header-at s p l =
     (λ y. let at : collectFrom h p (linesFrom s p) .at ≡ p = ap (λ r. collectFrom h p r .at) lines ∙ collect-stop h p m ms y .0 in
     (header-is (linesFrom s p) ∙ ap (λ r. fresh (rest 0 r)) lines ∙ ap fresh (lines-stop 0 m ms y .1 ∙ sym lines) ∙ ap (λ a. fresh (linesFrom s a)) (sym at), omega (arith, at)))
     (λ n. let tk = took s (length s) e h (omega arith) (line-inside s p l) (line-lf s p l) in
-    let st : collectFrom h p (linesFrom s p) ≡ collectFrom h e ms = ap (collectFrom h p) lines ∙ collect-step h p m ms n in
+    let st : collectFrom h p (linesFrom s p) ≡ moreLines 1 (collectFrom h e ms) = ap (collectFrom h p) lines ∙ collect-step h p m ms n in
     (header-is (linesFrom s p) ∙ ap (λ r. fresh (rest 0 r)) lines ∙ ap fresh (lines-step 0 m ms n .1 ∙ none-left (holdsArrow (lineAt s p)) ms) ∙ tk .goes ∙ ap (λ a. fresh (linesFrom s (a .at))) (sym st), rw st (tk .within)))
 
 from-start : (s : List ℕ) → linesAt 0 0 (split s) ≡ linesFrom s 0

@@ -1,23 +1,24 @@
 -- The lines of a text at a place, as a loop goes over them, and arrows in them.
-use Prim.Native.Nat.{ℕ, suc, _+_, _≤_, _<_}
+use Prim.Native.Nat.{ℕ, zero, suc, _+_, _-_, _≤_, _<_}
 use mathlib.Core.Path.{_≡_, refl, sym, ap, _∙_}
 use mathlib.Core.Bool.{Bool, true, false, cond, not, _&&_, _||_}
 use mathlib.Core.List.{List, [], _∷_, _++_}
+use native.Mathlib.Numerals.{add-one}
 use native.Mathlib.Omega.{arith}
 use lib.Dec.{eqb, ltb}
 use lib.ListN.{length, getD, take, drop, length-drop}
-use lib.Seq.{take-add, drop-cons, drop-drop}
+use lib.Seq.{take-suc, take-add, drop-cons, drop-drop}
 use borrow.Author.Tests.{eqb-true, ne-eqb, lt-ltb, le-ltb, ltb-true, ltb-false}
 use Rattle.format.specs.Bytes.{ascii, lf}
 use Rattle.format.specs.Texts.{startsWith, isEmpty, all, run}
 use Rattle.format.specs.Lines.{splitAt, split, before, onFirst}
 use Rattle.format.specs.Blocks.{Line, linesAt, holdsArrow}
 use Rattle.laws.proofs.Tests.{by-test, and-left, and-right, and-false, and-true}
-use Rattle.laws.proofs.Runs.{run-next, run-stop, run-end, run-length}
+use Rattle.laws.proofs.Runs.{run-next, run-stop, run-end, run-length, run-take}
 use Rattle.values.proofs.NumberLaws.{is-empty-not}
 use Rattle.blocks.specs.declared.collecting.Head.{Head}
 use Rattle.blocks.specs.declared.collecting.Why.the-variants as Why
-use Rattle.blocks.specs.Collecting.{lineEnds, linesFrom, headAfter, collectFrom, inLine, lineAt}
+use Rattle.blocks.specs.Collecting.{lineEnds, linesFrom, headAfter, moreLines, collectFrom, inLine, lineAt}
 
 -- the lines after a text's first line
 others : List ℕ → List (List ℕ)
@@ -42,6 +43,55 @@ pub ends-append : (x y : List ℕ) → lineEnds (x ++ y) ≡ lineEnds x + lineEn
 unfolding lineEnds
 ends-append [] y = omega arith
 ends-append (b ∷ x) y = omega (arith, ends-append x y)
+
+-- the line ends up to a place, with one byte more
+pub ends-next :
+    (s : List ℕ) (i : ℕ)
+    → i < length s
+    → (t : Bool)
+    → eqb (getD s i 0) lf ≡ t
+    → lineEnds (take (i + 1) s) ≡ lineEnds (take i s) + cond t 1 0
+unfolding lineEnds
+ends-next s i l t e = rw (sym e, add-one i, take-suc s i 0 l) (omega (arith, ends-append (take i s) (getD s i 0 ∷ [])))
+
+-- the line ends up to a place, with those from there up to another
+pub ends-more :
+    (s : List ℕ) (from to : ℕ) → from ≤ to → lineEnds (take to s) ≡ lineEnds (take from s) + lineEnds (take (to - from) (drop from s))
+ends-more s from to l =
+    let e : to ≡ from + (to - from) = omega arith in
+    ap (λ i. lineEnds (take i s)) e ∙ ap lineEnds (take-add from (to - from) s) ∙ ends-append (take from s) (take (to - from) (drop from s))
+
+-- no more than bytes
+pub ends-few : (s : List ℕ) (n : ℕ) → lineEnds (take n s) ≤ length s
+unfolding lineEnds
+ends-few [] zero = omega arith
+ends-few [] (suc n) = omega arith
+ends-few (b ∷ s) zero = omega arith
+ends-few (b ∷ s) (suc n) = by-test (eqb b lf) (λ y. rw y (omega (arith, ends-few s n))) (λ z. rw z (omega (arith, ends-few s n)))
+
+-- as many as bytes in a run of LF, and none in a line
+ends-empty : (x : List ℕ) → lineEnds (run (λ b. eqb b lf) x) ≡ length (run (λ b. eqb b lf) x)
+unfolding lineEnds run
+ends-empty [] = refl
+ends-empty (b ∷ x) = by-test (eqb b lf) (λ y. rw (y, y) (omega (arith, ends-empty x))) (λ n. rw n)
+
+ends-none : (x : List ℕ) → lineEnds (run inLine x) ≡ 0
+unfolding lineEnds run
+ends-none [] = refl
+ends-none (b ∷ x) = by-test (eqb b lf) (λ y. rw y) (λ n. rw (n, n) (omega (arith, ends-none x)))
+
+-- so the line ends up to a place, with a run of LF there, and with a line there
+pub ends-run : (s : List ℕ) (at : ℕ) → let n = length (run (λ b. eqb b lf) (drop at s)) in lineEnds (take (at + n) s) ≡ lineEnds (take at s) + n
+ends-run s at =
+    let x = drop at s in
+    let n = length (run (λ b. eqb b lf) x) in
+    omega (arith, ap lineEnds (take-add at n s), ends-append (take at s) (take n x), ap lineEnds (run-take (λ b. eqb b lf) x), ends-empty x)
+
+pub ends-same : (s : List ℕ) (p : ℕ) → lineEnds (take (p + length (lineAt s p)) s) ≡ lineEnds (take p s)
+ends-same s p =
+    let x = drop p s in
+    let n = length (run inLine x) in
+    omega (arith, ap lineEnds (take-add p n s), ends-append (take p s) (take n x), ap lineEnds (run-take inLine x), ends-none x)
 
 -- a line with the LF that ends it has one
 ends-line : (x : List ℕ) → length (run inLine x) < length x → lineEnds (take (suc (length (run inLine x))) x) ≡ 1
@@ -149,7 +199,7 @@ module _ (s : List ℕ) (p : ℕ) (h : Head) (e : ℕ) (l : p ≤ length s) wher
   at-line : collectFrom h e (linesFrom s p) ≡ collectFrom h e (lineFrom s p ∷ linesFrom s (p + length (lineAt s p) + 1))
   at-line = ap (collectFrom h e) (lines-next s p (p + length (lineAt s p)) l refl)
 
-  pub collect-empty : lineAt s p ≡ [] → collectFrom h e (linesFrom s p) ≡ record { why = Why.EmptyLine; at = p; to = e; head = h }
+  pub collect-empty : lineAt s p ≡ [] → collectFrom h e (linesFrom s p) ≡ record { why = Why.EmptyLine; at = p; to = e; lines = 0; head = h }
   unfolding collectFrom isEmpty
   collect-empty n = at-line ∙ rw n
 
@@ -157,7 +207,7 @@ module _ (s : List ℕ) (p : ℕ) (h : Head) (e : ℕ) (l : p ≤ length s) wher
     pub collect-arrow :
         h .left ≡ 0
         → holdsArrow (lineAt s p) ≡ true
-        → collectFrom h e (linesFrom s p) ≡ record { why = Why.Arrow; at = p; to = e; head = h }
+        → collectFrom h e (linesFrom s p) ≡ record { why = Why.Arrow; at = p; to = e; lines = 0; head = h }
     unfolding collectFrom
     collect-arrow k a = at-line ∙ rw (is-empty-not (lineAt s p) some, k, a)
 
@@ -165,6 +215,6 @@ module _ (s : List ℕ) (p : ℕ) (h : Head) (e : ℕ) (l : p ≤ length s) wher
         (end : ℕ)
         → end ≡ p + length (lineAt s p)
         → eqb (h .left) 0 && holdsArrow (lineAt s p) ≡ false
-        → collectFrom h e (linesFrom s p) ≡ collectFrom (headAfter h end (holdsArrow (lineAt s p))) end (linesFrom s (end + 1))
+        → collectFrom h e (linesFrom s p) ≡ moreLines 1 (collectFrom (headAfter h end (holdsArrow (lineAt s p))) end (linesFrom s (end + 1)))
     unfolding collectFrom
     collect-line end q a = at-line ∙ rw (is-empty-not (lineAt s p) some, a, q)

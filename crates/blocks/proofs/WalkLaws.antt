@@ -1,16 +1,17 @@
 -- Items one after the other, as a loop over the blocks of a text finds them.
-use Prim.Native.Nat.{ℕ, zero, suc, _+_, _≤_, _<_}
+use Prim.Native.Nat.{ℕ, zero, suc, _+_, _-_, _≤_, _<_}
 use mathlib.Core.Path.{_≡_, refl, sym, ap, _∙_}
 use mathlib.Core.Bool.{Bool, true, false, not, _&&_, _||_, true≢false}
-use mathlib.Core.List.{List, [], _∷_}
+use mathlib.Core.List.{List, [], _∷_, _++_}
 use native.Mathlib.Omega.{arith}
 use lib.Dec.{eqb, ltb}
-use lib.ListN.{length, getD}
+use lib.ListN.{length, getD, take}
 use borrow.Author.Tests.{eqb-true, eqb-false, ltb-true, ltb-false}
 use Rattle.format.specs.Bytes.{lf}
 use Rattle.format.specs.Texts.{isEmpty}
 use Rattle.format.specs.Blocks.{Line, between, blocksFrom, blocks, holdsArrow}
 use Rattle.format.specs.Lists.{Item, nothing, cue, style, region, isCue, itemsFrom, itemOver}
+use Rattle.format.specs.LineNumbers.{blockOfCue, cueBlocksFrom, firstNumber, lineSpan}
 use Rattle.laws.proofs.Tests.{by-test, and-left, and-right}
 use Rattle.laws.proofs.Runs.{run-next, run-stop, run-end, run-at, run-after, run-length}
 use Rattle.blocks.specs.declared.collecting.Head.{Head}
@@ -19,9 +20,9 @@ use Rattle.blocks.specs.declared.collecting.Why.{Why}
 use Rattle.blocks.specs.declared.collecting.Why.the-variants as Why
 use Rattle.blocks.specs.declared.Next.{Next}
 use Rattle.blocks.specs.declared.Next.the-variants as Next
-use Rattle.blocks.specs.Collecting.{linesFrom, headAfter, collectFrom, opening, inLine, lineAt, firstEnd, headerEnd, pastEmpty, nextIs, isEnd, WhyIs}
+use Rattle.blocks.specs.Collecting.{lineEnds, linesFrom, headAfter, collectFrom, opening, inLine, lineAt, firstEnd, headerEnd, pastEmpty, nextIs, isEnd, WhyIs}
 use Rattle.blocks.specs.Items.{meaningAt, PlacesIn, NextAt, NextIs, itemIs, kindIs, kindOver}
-use Rattle.blocks.proofs.LineLaws.{lineFrom, lines-next, lines-end, collect-empty, collect-arrow, collect-line}
+use Rattle.blocks.proofs.LineLaws.{ends-run, lineFrom, lines-next, lines-end, collect-empty, collect-arrow, collect-line}
 use Rattle.blocks.proofs.BlockLaws.{fresh-empty, fresh-after, block-at, header-at, blocks-after, no-blocks, line-inside}
 use Rattle.blocks.proofs.ItemLaws.{no-bytes, some-bytes}
 
@@ -89,6 +90,7 @@ next-is s at =
     rw y
     (record {
       skipped = ran .from;
+      empties = omega (arith, ends-run s at);
       same = same;
       block = block-at s from l (ap not (run-after (λ b. eqb b lf) s at from ran l));
       stopped = why-is s (length s + 1) from opening from (omega arith) (λ o. absurd (omega arith));
@@ -121,6 +123,36 @@ unfolding itemsFrom
 items-next s at from st seen n =
     let b = n .block in
     ap (itemsFrom seen) (n .same ∙ b .divides) ∙ rw (b .meant seen)
+
+-- the same of the blocks that give cues
+pub cues-next :
+    (s : List ℕ) (at from : ℕ) (st : Stop) (seen : Bool) (next : NextAt s at from st)
+    → let i = meaningAt seen s from st in
+    cueBlocksFrom seen (fresh s at) ≡ blockOfCue i (next .block .lines) ++ cueBlocksFrom (seen || isCue i) (fresh s (st .at))
+unfolding cueBlocksFrom
+cues-next s at from st seen n =
+    let b = n .block in
+    ap (cueBlocksFrom seen) (n .same ∙ b .divides) ∙ rw (b .meant seen)
+
+-- the lines of the next block, where the line at the place has the number n, from 1
+pub lines-found :
+    (s : List ℕ) (at from : ℕ) (st : Stop) (n : ℕ) (next : NextAt s at from st)
+    → n ≡ suc (lineEnds (take at s))
+    → record { first = n + (from - at); count = st .lines } ≡ lineSpan (next .block .lines)
+unfolding lineSpan
+lines-found s at from st n next e =
+    let b = next .block in
+    let first : n + (from - at) ≡ suc (firstNumber (b .lines)) = omega (arith, next .skipped, next .empties, b .begins) in
+    rw (first, b .counted)
+
+-- and the number of the line after it, where there is one
+pub line-after :
+    (s : List ℕ) (at from : ℕ) (st : Stop) (n : ℕ)
+    → NextAt s at from st
+    → n ≡ suc (lineEnds (take at s))
+    → isEnd (st .why) ≡ false
+    → n + (from - at) + st .lines ≡ suc (lineEnds (take (st .at) s))
+line-after s at from st n next e k = omega (arith, next .skipped, next .empties, next .block .numbers k)
 
 -- a block takes at least one byte
 pub moves : (s : List ℕ) (at from : ℕ) (st : Stop) → NextAt s at from st → at < st .at

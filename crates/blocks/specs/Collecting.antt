@@ -37,13 +37,17 @@ headWith left first end arrow =
 abbrev pub headAfter : Head → ℕ → Bool → Head
 headAfter h end arrow = cond (eqb (h .left) 0) h (headWith (h .left) (cond (eqb (h .left) 2) end (h .first)) end arrow)
 
--- where collecting stops that has these first lines so far, the last line ending at e, with these lines to come
+-- the same stop, so many lines more having been taken
+abbrev pub moreLines : ℕ → Stop → Stop
+moreLines n st = record { why = st .why; at = st .at; to = st .to; lines = n + st .lines; head = st .head }
+
+-- where collecting stops that has these first lines so far, the last line ending at e, with these lines to come; only these are counted
 unfoldable pub collectFrom : Head → ℕ → List Line → Stop
-collectFrom h e [] = record { why = Why.End; at = e; to = e; head = h }
+collectFrom h e [] = record { why = Why.End; at = e; to = e; lines = 0; head = h }
 collectFrom h e (l ∷ ls) =
-    cond (isEmpty (l .bytes)) (record { why = Why.EmptyLine; at = l .place; to = e; head = h })
-    (cond (eqb (h .left) 0 && holdsArrow (l .bytes)) (record { why = Why.Arrow; at = l .place; to = e; head = h })
-    (collectFrom (headAfter h (lineEnd l) (holdsArrow (l .bytes))) (lineEnd l) ls))
+    cond (isEmpty (l .bytes)) (record { why = Why.EmptyLine; at = l .place; to = e; lines = 0; head = h })
+    (cond (eqb (h .left) 0 && holdsArrow (l .bytes)) (record { why = Why.Arrow; at = l .place; to = e; lines = 0; head = h })
+    (moreLines 1 (collectFrom (headAfter h (lineEnd l) (holdsArrow (l .bytes))) (lineEnd l) ls)))
 
 -- no line yet, and no line that can be a timing line
 abbrev pub opening : Head

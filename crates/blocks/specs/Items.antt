@@ -14,7 +14,7 @@ use Rattle.format.specs.Lines.{split}
 use Rattle.format.specs.Blocks.{Line, between, blocksFrom, bytesOf}
 use Rattle.format.specs.CueSettings.{spanIs, noSpan}
 use Rattle.format.specs.Lists.{Cue, Item, nothing, cue, style, region, regionOf, isWord, meaning}
-use Rattle.format.specs.Replacing.{firstNumber}
+use Rattle.format.specs.LineNumbers.{firstNumber}
 use Rattle.format.specs.declared.settings.Span.{Span}
 use Rattle.values.specs.Tokens.{spanTo}
 use Rattle.timing.specs.declared.timing_line.LineKind.{LineKind}
@@ -22,7 +22,7 @@ use Rattle.timing.specs.declared.timing_line.LineKind.the-variants as LineKind
 use Rattle.timing.specs.declared.timing_line.TimingLine.{TimingLine}
 use Rattle.timing.specs.declared.timing_line.TimingLine.the-variants as TimingLine
 use Rattle.regions.specs.declared.RegionTaken.{RegionTaken}
-use Rattle.blocks.specs.Collecting.{lineEnds, linesFrom, WhyIs}
+use Rattle.blocks.specs.Collecting.{lineEnds, linesFrom, isEnd, WhyIs}
 use Rattle.blocks.specs.declared.collecting.Stop.{Stop}
 use Rattle.blocks.specs.declared.Next.{Next}
 use Rattle.blocks.specs.declared.Next.the-variants as Next
@@ -86,6 +86,8 @@ pub record BlockAt (s : List ℕ) (from : ℕ) (st : Stop) : Type 0 where
   pub meant : (seen : Bool) → meaning seen lines ≡ meaningAt seen s from st
   pub begins : firstNumber lines ≡ lineEnds (take from s)
   pub covers : split (part s from (st .to) .bytes) ≡ bytesOf lines
+  pub counted : st .lines ≡ length lines
+  pub numbers : isEnd (st .why) ≡ false → lineEnds (take (st .at) s) ≡ lineEnds (take from s) + st .lines
   pub starts : from < st .head .first
   pub first-end : st .head .first ≤ st .head .end
   pub end-to : st .head .end ≤ st .to
@@ -95,6 +97,7 @@ pub record BlockAt (s : List ℕ) (from : ℕ) (st : Stop) : Type 0 where
 -- the block that was found at a place or after it
 pub record NextAt (s : List ℕ) (at from : ℕ) (st : Stop) : Type 0 where
   pub skipped : at ≤ from
+  pub empties : lineEnds (take from s) + at ≡ lineEnds (take at s) + from
   pub same : blocksFrom between (linesFrom s at) ≡ blocksFrom between (linesFrom s from)
   pub block : BlockAt s from st
   pub stopped : WhyIs s (st .why) (st .at)

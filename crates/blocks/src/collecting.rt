@@ -44,6 +44,8 @@ pub struct Stop {
     pub at: usize,
     // Where the last line ends that was taken.
     pub to: usize,
+    // How many lines were taken.
+    pub lines: usize,
     pub head: Head,
 }
 
@@ -118,6 +120,7 @@ pub(crate) fn collect(s: &[u8], from: usize, known: Head) -> Stop
 {
     let mut line = from;
     let mut to = from;
+    let mut lines = 0;
     let mut head = known;
     'block: loop {
         let mut i = line;
@@ -130,6 +133,7 @@ pub(crate) fn collect(s: &[u8], from: usize, known: Head) -> Stop
                         why: Why::Arrow,
                         at: line,
                         to,
+                        lines,
                         head,
                     };
                 }
@@ -142,16 +146,19 @@ pub(crate) fn collect(s: &[u8], from: usize, known: Head) -> Stop
                 why: Why::EmptyLine,
                 at: line,
                 to,
+                lines,
                 head,
             };
         }
         head = head.after(i, arrow);
         to = i;
+        lines += 1;
         if i == s.len() {
             break 'block Stop {
                 why: Why::End,
                 at: i,
                 to,
+                lines,
                 head,
             };
         }

@@ -4,11 +4,26 @@ use collecting::Stop;
 use values::bytes::ByteKind;
 ghost use mathlib.Core.Path.{_≡_};
 ghost use Rattle.format.specs.Blocks.{hasSignature};
-ghost use Rattle.blocks.specs.Collecting.{headerEnd, nextIs};
+ghost use Rattle.blocks.specs.Collecting.{lineEnds, headerEnd, nextIs};
 
 pub mod collecting;
 pub mod inner;
 pub mod items;
+
+// How many line ends a plain text or a part of it has.
+pub fn line_ends(s: &[u8]) -> usize
+    ensures { λ r. ⌜ r ≡ lineEnds (now (s .entry)) ⌝ }
+{
+    let mut i = 0;
+    let mut n = 0;
+    while i < s.len() {
+        if s[i] == b'\n' {
+            n += 1;
+        }
+        i += 1;
+    }
+    n
+}
 
 pub fn has_signature(s: &[u8]) -> bool
     ensures { λ r. ⌜ r ≡ hasSignature (now (s .entry)) ⌝ }

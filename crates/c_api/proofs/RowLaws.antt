@@ -1,4 +1,4 @@
--- A row of 18 words is its words one after the other; what a lent row and a refused part say.
+-- A row of 20 words is its words one after the other; what a lent row and a refused part say.
 use Prim.Native.Nat.{ℕ}
 use mathlib.Core.Path.{_≡_, refl, ap, _∙_}
 use mathlib.Core.Bool.{false}
@@ -20,7 +20,7 @@ use Rattle.format.specs.Writable.{partPlain, cueTest1}
 use Rattle.laws.proofs.Tests.{by-test}
 use Rattle.c_api.specs.Lent.{most, unnamed}
 
-pub listed : (w : List ℕ) → length w ≡ 18 → drop 0 w ≡ getD w 0 0 ∷ getD w 1 0 ∷ getD w 2 0 ∷ getD w 3 0 ∷ getD w 4 0 ∷ getD w 5 0 ∷ getD w 6 0 ∷ getD w 7 0 ∷ getD w 8 0 ∷ getD w 9 0 ∷ getD w 10 0 ∷ getD w 11 0 ∷ getD w 12 0 ∷ getD w 13 0 ∷ getD w 14 0 ∷ getD w 15 0 ∷ getD w 16 0 ∷ getD w 17 0 ∷ []
+pub listed : (w : List ℕ) → length w ≡ 20 → drop 0 w ≡ getD w 0 0 ∷ getD w 1 0 ∷ getD w 2 0 ∷ getD w 3 0 ∷ getD w 4 0 ∷ getD w 5 0 ∷ getD w 6 0 ∷ getD w 7 0 ∷ getD w 8 0 ∷ getD w 9 0 ∷ getD w 10 0 ∷ getD w 11 0 ∷ getD w 12 0 ∷ getD w 13 0 ∷ getD w 14 0 ∷ getD w 15 0 ∷ getD w 16 0 ∷ getD w 17 0 ∷ getD w 18 0 ∷ getD w 19 0 ∷ []
 listed w e =
     drop-cons w 0 0 (omega arith)
     ∙ ap (λ r. getD w 0 0 ∷ r)
@@ -58,7 +58,11 @@ listed w e =
     ∙ ap (λ r. getD w 16 0 ∷ r)
     (drop-cons w 17 0 (omega arith)
     ∙ ap (λ r. getD w 17 0 ∷ r)
-    (drop-of-length-le w {i = 18} (omega arith)))))))))))))))))))
+    (drop-cons w 18 0 (omega arith)
+    ∙ ap (λ r. getD w 18 0 ∷ r)
+    (drop-cons w 19 0 (omega arith)
+    ∙ ap (λ r. getD w 19 0 ∷ r)
+    (drop-of-length-le w {i = 20} (omega arith)))))))))))))))))))))
 
 -- the row that stands for words of another count fails test 1
 pub unnamed-fails : (t : List ℕ) → newTest1 t unnamed ≡ false

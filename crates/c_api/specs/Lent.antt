@@ -16,11 +16,11 @@ most = 18_446_744_073_709_551_615
 -- a row of a new cue in which nothing is named, so that it fails test 1
 abbrev pub unnamed : List ℕ
 unnamed =
-    most ∷ most ∷ most ∷ most ∷ most ∷ most ∷ most ∷ most ∷ most ∷ most ∷ most ∷ most ∷ most ∷ most ∷ most ∷ most ∷ most ∷ most ∷ []
+    most ∷ most ∷ most ∷ most ∷ most ∷ most ∷ most ∷ most ∷ most ∷ most ∷ most ∷ most ∷ most ∷ most ∷ most ∷ most ∷ most ∷ most ∷ most ∷ most ∷ []
 
 -- the row that is lent: one of another count of words is taken for a row that fails test 1
 unfoldable pub lentWords : List ℕ → List ℕ
-lentWords w = cond (eqb (length w) 18) w unnamed
+lentWords w = cond (eqb (length w) 20) w unnamed
 
 -- the values told with a part that stands at a place: from and to, or what is returned with the refusal
 unfoldable pub placeTold : Answer → Span → List ℕ

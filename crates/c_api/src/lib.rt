@@ -16,7 +16,7 @@ ghost use mathlib.Core.List.{[], _∷_};
 ghost use lib.ListN.{length, take};
 ghost use Rattle.format.specs.Plain.{plainText};
 ghost use Rattle.format.specs.Lists.{lists};
-ghost use Rattle.format.specs.Rows.{cueRows, regionRows, styleRows, cueEntry};
+ghost use Rattle.format.specs.Rows.{regionRows, styleRows, storedCues, cueEntry};
 ghost use Rattle.format.specs.Answers.{accepted, refusalNumber, returned, withValues};
 ghost use Rattle.format.specs.Converting.{converting, convertedRoom, testing};
 ghost use Rattle.format.specs.Reading.{reading, readingRaw, fileReading, afterReading};
@@ -58,7 +58,7 @@ pub extern "C" fn spatz_read(
     values: &mut [u64; 8],
 ) -> u64
     ensures number { λ r. ⌜ r ≡ refusalNumber (reading (now (text .entry)) (length (now (cues .entry))) (length (now (regions .entry))) (length (now (styles .entry)))) ⌝ }
-    ensures cues { λ _. ⌜ now (cues .exit) ≡ afterReading (reading (now (text .entry)) (length (now (cues .entry))) (length (now (regions .entry))) (length (now (styles .entry)))) (cueRows (lists (now (text .entry)) .regions) (lists (now (text .entry)) .cues)) (now (cues .entry)) ⌝ }
+    ensures cues { λ _. ⌜ now (cues .exit) ≡ afterReading (reading (now (text .entry)) (length (now (cues .entry))) (length (now (regions .entry))) (length (now (styles .entry)))) (storedCues (now (text .entry))) (now (cues .entry)) ⌝ }
     ensures regions { λ _. ⌜ now (regions .exit) ≡ afterReading (reading (now (text .entry)) (length (now (cues .entry))) (length (now (regions .entry))) (length (now (styles .entry)))) (regionRows (lists (now (text .entry)) .regions)) (now (regions .entry)) ⌝ }
     ensures styles { λ _. ⌜ now (styles .exit) ≡ afterReading (reading (now (text .entry)) (length (now (cues .entry))) (length (now (regions .entry))) (length (now (styles .entry)))) (styleRows (lists (now (text .entry)) .styles)) (now (styles .entry)) ⌝ }
     ensures values { λ _. ⌜ now (values .exit) ≡ withValues 0 (returned (reading (now (text .entry)) (length (now (cues .entry))) (length (now (regions .entry))) (length (now (styles .entry))))) (now (values .entry)) ⌝ }
@@ -79,7 +79,7 @@ pub extern "C" fn spatz_read_file(
 ) -> u64
     ensures number { λ r. ⌜ r ≡ refusalNumber (fileReading (now (raw .entry)) (length (now (text .entry))) (length (now (cues .entry))) (length (now (regions .entry))) (length (now (styles .entry)))) ⌝ }
     ensures text { λ _. ⌜ now (text .exit) ≡ convertedRoom (now (raw .entry)) (now (text .entry)) ⌝ }
-    ensures cues { λ _. ⌜ now (cues .exit) ≡ afterReading (readingRaw (now (raw .entry)) (length (now (text .entry))) (length (now (cues .entry))) (length (now (regions .entry))) (length (now (styles .entry)))) (cueRows (lists (plainText (now (raw .entry))) .regions) (lists (plainText (now (raw .entry))) .cues)) (now (cues .entry)) ⌝ }
+    ensures cues { λ _. ⌜ now (cues .exit) ≡ afterReading (readingRaw (now (raw .entry)) (length (now (text .entry))) (length (now (cues .entry))) (length (now (regions .entry))) (length (now (styles .entry)))) (storedCues (plainText (now (raw .entry)))) (now (cues .entry)) ⌝ }
     ensures regions { λ _. ⌜ now (regions .exit) ≡ afterReading (readingRaw (now (raw .entry)) (length (now (text .entry))) (length (now (cues .entry))) (length (now (regions .entry))) (length (now (styles .entry)))) (regionRows (lists (plainText (now (raw .entry))) .regions)) (now (regions .entry)) ⌝ }
     ensures styles { λ _. ⌜ now (styles .exit) ≡ afterReading (readingRaw (now (raw .entry)) (length (now (text .entry))) (length (now (cues .entry))) (length (now (regions .entry))) (length (now (styles .entry)))) (styleRows (lists (plainText (now (raw .entry))) .styles)) (now (styles .entry)) ⌝ }
     ensures values { λ _. ⌜ now (values .exit) ≡ withValues 0 (returned (fileReading (now (raw .entry)) (length (now (text .entry))) (length (now (cues .entry))) (length (now (regions .entry))) (length (now (styles .entry))))) (now (values .entry)) ⌝ }
@@ -150,7 +150,7 @@ pub extern "C" fn spatz_rewrite(
 ) -> u64
     ensures number { λ r. ⌜ r ≡ refusalNumber (rewriting (now (raw .entry)) (lengths (now (text .entry)) (now (cues .entry)) (now (regions .entry)) (now (styles .entry)) (now (out .entry)))) ⌝ }
     ensures text { λ _. ⌜ now (text .exit) ≡ convertedRoom (now (raw .entry)) (now (text .entry)) ⌝ }
-    ensures cues { λ _. ⌜ now (cues .exit) ≡ afterReading (readingIn (now (raw .entry)) (lengths (now (text .entry)) (now (cues .entry)) (now (regions .entry)) (now (styles .entry)) (now (out .entry)))) (cueRows (lists (plainText (now (raw .entry))) .regions) (lists (plainText (now (raw .entry))) .cues)) (now (cues .entry)) ⌝ }
+    ensures cues { λ _. ⌜ now (cues .exit) ≡ afterReading (readingIn (now (raw .entry)) (lengths (now (text .entry)) (now (cues .entry)) (now (regions .entry)) (now (styles .entry)) (now (out .entry)))) (storedCues (plainText (now (raw .entry)))) (now (cues .entry)) ⌝ }
     ensures regions { λ _. ⌜ now (regions .exit) ≡ afterReading (readingIn (now (raw .entry)) (lengths (now (text .entry)) (now (cues .entry)) (now (regions .entry)) (now (styles .entry)) (now (out .entry)))) (regionRows (lists (plainText (now (raw .entry))) .regions)) (now (regions .entry)) ⌝ }
     ensures styles { λ _. ⌜ now (styles .exit) ≡ afterReading (readingIn (now (raw .entry)) (lengths (now (text .entry)) (now (cues .entry)) (now (regions .entry)) (now (styles .entry)) (now (out .entry)))) (styleRows (lists (plainText (now (raw .entry))) .styles)) (now (styles .entry)) ⌝ }
     ensures out { λ _. ⌜ now (out .exit) ≡ rewrittenRoom (now (raw .entry)) (lengths (now (text .entry)) (now (cues .entry)) (now (regions .entry)) (now (styles .entry)) (now (out .entry))) (now (out .entry)) ⌝ }
@@ -188,10 +188,12 @@ fn lent_row(row: &[u64]) -> NewCueRow
         row[15],
         row[16],
         row[17],
+        row[18],
+        row[19],
     ]
 }
 
-// The raw file with one cue replaced goes to `out`, the old file's plain text to `scratch`. The new cue is a row of 18 words over a text; another
+// The raw file with one cue replaced goes to `out`, the old file's plain text to `scratch`. The new cue is a row of 20 words over a text; another
 // count of words fails test 1. Values: the new file's length; for 2 and 10 the length needed; for 7 the count; for 8 list, cue number, test.
 #[no_mangle]
 pub extern "C" fn spatz_replace(

@@ -5,7 +5,7 @@ use mathlib.Core.Bool.{false}
 use mathlib.Core.List.{List, [], _∷_}
 use mathlib.Core.Option.{some}
 use Rattle.format.specs.Bytes.{ascii}
-use Rattle.format.specs.Rows.{cueWords, newCueWords, regionWords, styleWords, cueEntry, newCueName, regionEntry, styleEntry}
+use Rattle.format.specs.Rows.{cueWords, newCueWords, regionWords, styleWords, cueEntry, cueSpan, newCueName, regionEntry, styleEntry}
 use Rattle.format.specs.Trees.{Node, parentWord, placeWords, nodeWords}
 use Rattle.format.specs.declared.kinds.NodeKind.the-variants as NodeKind
 use Rattle.format.specs.declared.settings.Span.{Span}
@@ -19,6 +19,7 @@ use Rattle.format.specs.declared.regions.Scroll.the-variants as Scroll
 use Rattle.format.specs.declared.regions.Region.{Region}
 use Rattle.format.specs.declared.rows.RegionIndex.the-variants as RegionIndex
 use Rattle.format.specs.declared.rows.CueEntry.{CueEntry}
+use Rattle.format.specs.declared.rows.LineSpan.{LineSpan}
 
 abbrev cueExample : CueEntry
 cueExample =
@@ -37,14 +38,17 @@ cueExample =
       region = RegionIndex.At 4;
     }
 
+abbrev linesExample : LineSpan
+linesExample = record { first = 6; count = 7 }
+
 abbrev cueRowExample : List ℕ
-cueRowExample = 10 ∷ 20 ∷ 30 ∷ 40 ∷ 50 ∷ 60 ∷ 2 ∷ 1 ∷ 70 ∷ 1 ∷ 2 ∷ 1 ∷ 80 ∷ 3 ∷ 90 ∷ 4 ∷ 5 ∷ []
+cueRowExample = 10 ∷ 20 ∷ 30 ∷ 40 ∷ 50 ∷ 60 ∷ 2 ∷ 1 ∷ 70 ∷ 1 ∷ 2 ∷ 1 ∷ 80 ∷ 3 ∷ 90 ∷ 4 ∷ 5 ∷ 6 ∷ 7 ∷ []
 
 abbrev nameExample : Span
 nameExample = record { from = 100; to = 110 }
 
 abbrev newCueRowExample : List ℕ
-newCueRowExample = 10 ∷ 20 ∷ 30 ∷ 40 ∷ 50 ∷ 60 ∷ 2 ∷ 1 ∷ 70 ∷ 1 ∷ 2 ∷ 1 ∷ 80 ∷ 3 ∷ 90 ∷ 4 ∷ 100 ∷ 110 ∷ []
+newCueRowExample = 10 ∷ 20 ∷ 30 ∷ 40 ∷ 50 ∷ 60 ∷ 2 ∷ 1 ∷ 70 ∷ 1 ∷ 2 ∷ 1 ∷ 80 ∷ 3 ∷ 90 ∷ 4 ∷ 100 ∷ 110 ∷ 0 ∷ 0 ∷ []
 
 abbrev regionExample : Region
 regionExample =
@@ -62,7 +66,7 @@ nodeExample = record { parent = some 3; kind = NodeKind.Voice; classes = ascii "
 
 -- each entry is coded as its row, and its row is decoded as it
 pub record RowsHold : Type 0 where
-  pub cue : (cueWords cueExample ≡ cueRowExample) × (cueEntry cueRowExample ≡ cueExample)
+  pub cue : (cueWords cueExample linesExample ≡ cueRowExample) × (cueEntry cueRowExample ≡ cueExample) × (cueSpan cueRowExample ≡ linesExample)
   pub newCue : (newCueWords cueExample nameExample ≡ newCueRowExample) × (newCueName newCueRowExample ≡ nameExample)
   pub region : (regionWords regionExample ≡ regionRowExample) × (regionEntry regionRowExample ≡ regionExample)
   pub style : (styleWords nameExample ≡ 100 ∷ 110 ∷ []) × (styleEntry (100 ∷ 110 ∷ []) ≡ nameExample)
@@ -70,4 +74,4 @@ pub record RowsHold : Type 0 where
 
 pub rows-hold : RowsHold
 unfolding nodeWords parentWord placeWords
-rows-hold = record { cue = (refl, refl); newCue = (refl, refl); region = (refl, refl); style = (refl, refl); node = refl }
+rows-hold = record { cue = (refl, refl, refl); newCue = (refl, refl); region = (refl, refl); style = (refl, refl); node = refl }

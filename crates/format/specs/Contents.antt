@@ -5,7 +5,7 @@ use mathlib.Core.Option.{Option, none, some}
 use Rattle.format.specs.Texts.{bytesAt}
 use Rattle.format.specs.RegionSettings.{RegionValues}
 use Rattle.format.specs.Lists.{Cue, Lists, lists}
-use Rattle.format.specs.Rows.{regionFor, cueEntry, regionEntry, styleEntry, cueRows, regionRows, styleRows}
+use Rattle.format.specs.Rows.{regionFor, cueEntry, regionEntry, styleEntry, regionRows, styleRows, storedCues}
 use Rattle.format.specs.declared.settings.Span.{Span}
 use Rattle.format.specs.declared.settings.Settings.{Settings}
 use Rattle.format.specs.declared.regions.RegionSettings.{RegionSettings}
@@ -92,4 +92,4 @@ contentsOfRows s styles regions cues =
 -- the contents of the rows that reading a text stores; they are those of its lists
 unfoldable pub storedContents : List ℕ → Contents
 storedContents s =
-    contentsOfRows s (styleRows (lists s .styles)) (regionRows (lists s .regions)) (cueRows (lists s .regions) (lists s .cues))
+    contentsOfRows s (styleRows (lists s .styles)) (regionRows (lists s .regions)) (storedCues s)

@@ -17,8 +17,10 @@ pub mod CueSettings
 pub mod RegionSettings
 pub mod TimingLines
 -- Plain text to lists (20). `Blocks`: signature, lines with number and place, where a block stops. `Lists`: what a block means, and the lists.
+-- `LineNumbers`: the lines of each cue, and how they move where one cue is replaced.
 pub mod Blocks
 pub mod Lists
+pub mod LineNumbers
 -- Lists and tables (15). `Rows`: the one coding and the one decoding of each row. `Contents`: what lists and rows are compared by.
 pub mod Rows
 pub mod Contents

@@ -11,8 +11,9 @@ use Rattle.format.specs.Texts.{startsWith, isEmpty, bytesAt}
 use Rattle.format.specs.Plain.{plainText}
 use Rattle.format.specs.Lines.{split, join}
 use Rattle.format.specs.RegionSettings.{lastNamed}
-use Rattle.format.specs.Blocks.{Line, hasSignature, blocks}
-use Rattle.format.specs.Lists.{Item, meaning, isCue, items, lists, anyOver}
+use Rattle.format.specs.Blocks.{hasSignature}
+use Rattle.format.specs.Lists.{items, lists, anyOver}
+use Rattle.format.specs.LineNumbers.{cueBlocks, firstNumber, lineSpans, LinesMoved}
 use Rattle.format.specs.Rows.{ids, newCueEntry, newCueName}
 use Rattle.format.specs.Contents.{CueContents, Contents, contents, cueOfEntry}
 use Rattle.format.specs.Answers.{Answer, accepted, refused, ifAccepted, andThen, fileAnswer, placed}
@@ -61,22 +62,7 @@ rawStart raw n = length (rawBytes (take n (rawLines raw)))
 unfoldable pub rawEnd : List ℕ → ℕ → ℕ
 rawEnd raw n = rawStart raw n + length (getD (rawLines raw) n (emptyLine []) .bytes)
 
--- the blocks that give cues, one after the other
-unfoldable pub blockOfCue : Item → List Line → List (List Line)
-blockOfCue i b = cond (isCue i) (b ∷ []) []
-
-unfoldable pub cueBlocksFrom : Bool → List (List Line) → List (List Line)
-cueBlocksFrom seen [] = []
-cueBlocksFrom seen (b ∷ bs) = blockOfCue (meaning seen b) b ++ cueBlocksFrom (seen || isCue (meaning seen b)) bs
-
-unfoldable pub cueBlocks : List ℕ → List (List Line)
-cueBlocks s = cueBlocksFrom false (blocks s)
-
 -- the numbers of a cue's first line (identifier or timing line) and of its last (the timing line where its text is empty)
-unfoldable pub firstNumber : List Line → ℕ
-firstNumber [] = 0
-firstNumber (l ∷ ls) = l .number
-
 unfoldable pub firstLine : List ℕ → ℕ → ℕ
 firstLine s number = firstNumber (getD (cueBlocks s) number [])
 
@@ -191,5 +177,7 @@ pub record Replaced (raw : List ℕ) (number : ℕ) (t w new : List ℕ) : Type 
   pub reads :
       contents (lists (plainText new))
       ≡ withCue number (cueAsked t w (regionNames (plainText raw))) (contents (lists (plainText raw)))
+  -- that cue has the lines of the written form, and only the cues after it move
+  pub lines : LinesMoved number (length (split (newForm (plainText raw) t w))) (lineSpans (plainText raw)) (lineSpans (plainText new))
   -- and it can be read
   pub again : ReadsAgain new

@@ -6,7 +6,7 @@ use Rattle.format.specs.Plain.{plainText}
 use Rattle.format.specs.Lists.{lists}
 use Rattle.format.specs.Contents.{contents}
 use Rattle.format.specs.Written.{written}
-use Rattle.format.specs.Rows.{cueRows, regionRows, styleRows}
+use Rattle.format.specs.Rows.{regionRows, styleRows, storedCues}
 use Rattle.format.specs.Answers.{Answer, accepted, refused, ifAccepted, andThen, placed}
 use Rattle.format.specs.Reading.{readingRaw}
 use Rattle.format.specs.Writing.{writing}
@@ -39,7 +39,7 @@ lengths text cues regions styles out =
 
 -- writing what a plain text reads as, and the file that this gives: "the written form" of its lists
 unfoldable pub writingOf : List ℕ → ℕ → Answer
-writingOf s out = writing s (styleRows (lists s .styles)) (regionRows (lists s .regions)) (cueRows (lists s .regions) (lists s .cues)) out
+writingOf s out = writing s (styleRows (lists s .styles)) (regionRows (lists s .regions)) (storedCues s) out
 
 unfoldable pub rewrittenFile : List ℕ → List ℕ
 rewrittenFile s = written (contents (lists s))

@@ -9,7 +9,8 @@ use lib.ListN.{getD}
 use Rattle.format.specs.Texts.{Part, isEmpty}
 use Rattle.format.specs.CueSettings.{spanIs}
 use Rattle.format.specs.RegionSettings.{RegionValues, regionIs, lastNamed}
-use Rattle.format.specs.Lists.{Cue}
+use Rattle.format.specs.Lists.{Cue, lists}
+use Rattle.format.specs.LineNumbers.{lineSpans}
 use Rattle.format.specs.declared.settings.Span.{Span}
 use Rattle.format.specs.declared.settings.Direction.{Direction}
 use Rattle.format.specs.declared.settings.Direction.the-variants as Direction
@@ -29,6 +30,7 @@ use Rattle.format.specs.declared.regions.Region.{Region}
 use Rattle.format.specs.declared.rows.RegionIndex.{RegionIndex}
 use Rattle.format.specs.declared.rows.RegionIndex.the-variants as RegionIndex
 use Rattle.format.specs.declared.rows.CueEntry.{CueEntry}
+use Rattle.format.specs.declared.rows.LineSpan.{LineSpan}
 
 -- the coded choices, each as a word
 abbrev pub directionWord : Direction → ℕ
@@ -111,13 +113,14 @@ cueWordsWith others e =
     ∷ alignWord (e .settings .align)
     ∷ others
 
--- the row of a cue
-abbrev pub cueWords : CueEntry → List ℕ
-cueWords e = cueWordsWith (regionWord (e .region) ∷ []) e
+-- the row of a cue that has these lines
+abbrev pub cueWords : CueEntry → LineSpan → List ℕ
+cueWords e lines = cueWordsWith (regionWord (e .region) ∷ lines .first ∷ lines .count ∷ []) e
 
--- the row of a new cue, which is lent for a replacement: with the name of its region, a part of the text lent with it, for the region's index
+-- the row of a new cue, which is lent for a replacement: with the name of its region, a part of the text lent with it, for the region's index,
+-- and two words that no definition looks at
 abbrev pub newCueWords : CueEntry → Span → List ℕ
-newCueWords e name = cueWordsWith (name .from ∷ name .to ∷ []) e
+newCueWords e name = cueWordsWith (name .from ∷ name .to ∷ 0 ∷ 0 ∷ []) e
 
 -- the row of a region
 abbrev pub regionWords : Region → List ℕ
@@ -200,9 +203,12 @@ cueEntryWith region w =
       region = region;
     }
 
--- what a cue's row says
+-- what a cue's row says, and what it says of the cue's lines
 abbrev pub cueEntry : List ℕ → CueEntry
 cueEntry w = cueEntryWith (regionIndexOf (word 16 w)) w
+
+abbrev pub cueSpan : List ℕ → LineSpan
+cueSpan w = record { first = word 17 w; count = word 18 w }
 
 -- what a new cue's row says: the cue, with no region, and the region's name
 abbrev pub newCueEntry : List ℕ → CueEntry
@@ -256,12 +262,18 @@ entryIs rs c =
       region = indexIs (regionFor rs (c .region));
     }
 
--- the tables' rows for lists
-unfoldable pub cueRows : List RegionValues → List Cue → List (List ℕ)
-cueRows rs cs = map (λ c. cueWords (entryIs rs c)) cs
+-- the tables' rows for lists; each cue has its lines, and there are as many of these as cues
+unfoldable pub cueRows : List RegionValues → List Cue → List LineSpan → List (List ℕ)
+cueRows rs [] ls = []
+cueRows rs (c ∷ cs) [] = []
+cueRows rs (c ∷ cs) (l ∷ ls) = cueWords (entryIs rs c) l ∷ cueRows rs cs ls
 
 unfoldable pub regionRows : List RegionValues → List (List ℕ)
 regionRows rs = map (λ r. regionWords (regionIs r)) rs
 
 unfoldable pub styleRows : List Part → List (List ℕ)
 styleRows ts = map (λ t. styleWords (spanIs t)) ts
+
+-- the rows of the cues of a text
+unfoldable pub storedCues : List ℕ → List (List ℕ)
+storedCues s = cueRows (lists s .regions) (lists s .cues) (lineSpans s)

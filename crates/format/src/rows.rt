@@ -3,7 +3,7 @@
 use super::settings::Settings;
 use super::settings::Span;
 
-pub const CUE_WORDS: usize = 17;
+pub const CUE_WORDS: usize = 19;
 
 pub type CueRow = [u64; CUE_WORDS];
 
@@ -45,8 +45,14 @@ pub const CUE_ALIGN: usize = 15;
 // 0 for none, else the region's index and one.
 pub const CUE_REGION: usize = 16;
 
-// The new cue of a replacement: the words of a cue's row before its region, and then the region's name, a part of the text lent with it.
-pub const NEW_CUE_WORDS: usize = 18;
+// The number of the cue's first line in the file, from 1, and its count of lines. Only reading looks at them: it stores them.
+pub const CUE_FIRST_LINE: usize = 17;
+
+pub const CUE_LINES: usize = 18;
+
+// The new cue of a replacement: the words of a cue's row before its region, then the region's name, a part of the text lent with it, and two
+// words that nobody looks at.
+pub const NEW_CUE_WORDS: usize = 20;
 
 pub type NewCueRow = [u64; NEW_CUE_WORDS];
 
@@ -98,6 +104,17 @@ pub struct CueEntry {
     pub text: Span,
     pub settings: Settings,
     pub region: RegionIndex,
+}
+
+// The lines of a cue in its file: its first line's number, counted from 1, and how many there are.
+pub struct LineSpan {
+    pub first: u64,
+    pub count: u64,
+}
+
+impl LineSpan {
+    // Of a cue that was read from no file.
+    pub const NONE: LineSpan = LineSpan { first: 0, count: 0 };
 }
 
 // The row of a node of a cue text. An empty string is 0, 0.

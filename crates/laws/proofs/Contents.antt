@@ -194,7 +194,7 @@ tests-bare (cue c over) = (refl, refl)
 tests-bare (style text) = (refl, refl)
 tests-bare (region r over) = (refl, refl)
 
-isCue-unplaced : (seen : Bool) (b : List Line) → isCue (meaning seen (unplaced b)) ≡ isCue (meaning seen b)
+pub isCue-unplaced : (seen : Bool) (b : List Line) → isCue (meaning seen (unplaced b)) ≡ isCue (meaning seen b)
 isCue-unplaced seen b =
     sym (tests-bare (meaning seen (unplaced b)) .0) ∙ ap isCue (meaning-bare seen b) ∙ tests-bare (meaning seen b) .0
 

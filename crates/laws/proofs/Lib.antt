@@ -18,7 +18,9 @@ pub mod Tokens
 pub mod Changes
 pub mod Standing
 pub mod Contents
+pub mod LineNumbers
 pub mod Names
 pub mod LookingUp
 pub mod Rows
 pub mod Answers
+pub mod Unread

@@ -17,10 +17,12 @@ use Rattle.format.specs.RegionSettings.{RegionValues, lastNamed, regionIs}
 use Rattle.format.specs.Blocks.{Line as TextLine, linesAt, Collecting, between, header, inside, stops, begin, goOn, collected, ended, next, blocksFrom, afterSignature, blocks}
 use Rattle.format.specs.Lists.{Cue, Item, nothing, cue, style, region, meaning, isCue, itemsFrom, items, Lists, into, listed, lists}
 use Rattle.format.specs.Rows.{directionOf, lineOf, lineAlignOf, positionOf, positionAlignOf, alignOf, regionIndexOf, scrollOf, directionWord, lineWord, lineNumberWord, snapWord, lineAlignWord, positionWord, positionNumberWord, positionAlignWord, alignWord, regionWord, scrollWord, greatestWord}
-use Rattle.format.specs.Rows.{word, cueEntryWith, cueWords, regionWords, styleWords, cueEntry, regionEntry, styleEntry, regionFor, entryIs, ids, indexIs, cueRows, regionRows, styleRows}
+use Rattle.format.specs.Rows.{word, cueEntryWith, cueWords, regionWords, styleWords, cueEntry, regionEntry, styleEntry, cueSpan, regionFor, entryIs, ids, indexIs, cueRows, regionRows, styleRows, storedCues}
+use Rattle.format.specs.LineNumbers.{lineSpans}
 use Rattle.format.specs.Contents.{CueContents, cueContents, regionContents, contents, optionOf, cueOfEntry, regionOfEntry, cueOfRow, regionOfRow, styleOfRow, contentsOfRows, storedContents}
 use Rattle.laws.proofs.Tests.{by-test}
 use Rattle.laws.proofs.Names.{found}
+use Rattle.laws.proofs.LineNumbers.{spans-length}
 use Rattle.laws.proofs.Standing.{All, Stands, Signed, CueStands, lists-stand}
 use Rattle.format.specs.declared.settings.Direction.{Direction}
 use Rattle.format.specs.declared.settings.Direction.the-variants as Direction
@@ -40,6 +42,7 @@ use Rattle.format.specs.declared.regions.Scroll.the-variants as Scroll
 use Rattle.format.specs.declared.rows.RegionIndex.{RegionIndex}
 use Rattle.format.specs.declared.rows.RegionIndex.the-variants as RegionIndex
 use Rattle.format.specs.declared.rows.CueEntry.{CueEntry}
+use Rattle.format.specs.declared.rows.LineSpan.{LineSpan}
 
 -- each choice's word names the choice
 direction-coded : (d : Direction) → directionOf (directionWord d) ≡ d
@@ -107,8 +110,8 @@ scroll-coded Scroll.None = refl
 scroll-coded Scroll.Up = refl
 
 -- coding and decoding are inverse
-pub cue-inverse : (e : CueEntry) → Signed (e .settings .line .line) → Indexed (e .region) → cueEntry (cueWords e) ≡ e
-cue-inverse e h l =
+pub cue-inverse : (e : CueEntry) (lines : LineSpan) → Signed (e .settings .line .line) → Indexed (e .region) → cueEntry (cueWords e lines) ≡ e
+cue-inverse e lines h l =
     rw (
       direction-coded (e .settings .vertical),
       line-coded (e .settings .line .line) h,
@@ -141,12 +144,12 @@ region-indexed rs name l =
 
 -- the rows that reading makes are read back as their entries
 pub read-inverse :
-    (rs : List RegionValues) (c : Cue)
+    (rs : List RegionValues) (c : Cue) (lines : LineSpan)
     → Signed (c .settings .line .line)
     → length rs ≤ greatestWord
-    → cueEntry (cueWords (entryIs rs c)) ≡ entryIs rs c
+    → cueEntry (cueWords (entryIs rs c) lines) ≡ entryIs rs c
 unfolding entryIs
-read-inverse rs c h l = cue-inverse (entryIs rs c) h (region-indexed rs (c .region) l)
+read-inverse rs c lines h l = cue-inverse (entryIs rs c) lines h (region-indexed rs (c .region) l)
 
 -- a text has no more lines than bytes and one, no more blocks than lines, and no more regions than blocks
 split-length : (s : List ℕ) → length (split s) ≤ suc (length s)
@@ -161,7 +164,7 @@ split-length (b ∷ s) =
     first [] = omega arith
     first (l ∷ ls) = omega arith
 
-lines-length : (n p : ℕ) (ls : List (List ℕ)) → length (linesAt n p ls) ≡ length ls
+pub lines-length : (n p : ℕ) (ls : List (List ℕ)) → length (linesAt n p ls) ≡ length ls
 unfolding linesAt
 lines-length n p [] = refl
 lines-length n p (l ∷ ls) = ap suc (lines-length (suc n) (p + suc (length l)) ls)
@@ -222,13 +225,13 @@ option-index (some i) = refl
 
 -- the row of a cue, a region and a style has the contents of what was read
 cue-same :
-    (s : List ℕ) (rs : List RegionValues) (c : Cue)
+    (s : List ℕ) (rs : List RegionValues) (c : Cue) (lines : LineSpan)
     → CueStands s c
     → length rs ≤ greatestWord
-    → cueOfRow s (cueWords (entryIs rs c)) ≡ cueContents rs c
+    → cueOfRow s (cueWords (entryIs rs c) lines) ≡ cueContents rs c
 unfolding cueOfEntry entryIs cueContents
-cue-same s rs c k l =
-    ap (cueOfEntry s) (read-inverse rs c (k .line) l)
+cue-same s rs c lines k l =
+    ap (cueOfEntry s) (read-inverse rs c lines (k .line) l)
     ∙ rw (stands-bytes s (c .id) (k .id), stands-bytes s (c .text) (k .text), option-index (regionFor rs (c .region)))
 
 region-same : (s : List ℕ) (r : RegionValues) → Stands s (r .id) → regionOfRow s (regionWords (regionIs r)) ≡ regionContents r
@@ -243,17 +246,53 @@ maps : {A B C : Type 0} (P : A → Type 0) (f : B → C) (g : A → B) (h : A �
 maps P f g h e [] k = refl
 maps P f g h e (x ∷ xs) k = rw (e x (k .0), maps P f g h e xs (k .1)) refl
 
+-- the rows of cues that have lines, as many of these as cues
+rows-same :
+    (s : List ℕ) (rs : List RegionValues) (cs : List Cue) (ls : List LineSpan)
+    → length ls ≡ length cs
+    → All (CueStands s) cs
+    → length rs ≤ greatestWord
+    → map (cueOfRow s) (cueRows rs cs ls) ≡ map (cueContents rs) cs
+unfolding cueRows
+rows-same s rs [] ls e k l = refl
+rows-same s rs (c ∷ cs) [] e k l = absurd (omega arith)
+rows-same s rs (c ∷ cs) (m ∷ ls) e k l = rw (cue-same s rs c m (k .0) l, rows-same s rs cs ls (omega arith) (k .1) l) refl
+
+-- and what they say of these lines
+rows-spans : (rs : List RegionValues) (cs : List Cue) (ls : List LineSpan) → length ls ≡ length cs → map cueSpan (cueRows rs cs ls) ≡ ls
+unfolding cueRows
+rows-spans rs [] [] e = refl
+rows-spans rs [] (m ∷ ls) e = absurd (omega arith)
+rows-spans rs (c ∷ cs) [] e = absurd (omega arith)
+rows-spans rs (c ∷ cs) (m ∷ ls) e = ap (λ r. m ∷ r) (rows-spans rs cs ls (omega arith))
+
+rows-length : (rs : List RegionValues) (cs : List Cue) (ls : List LineSpan) → length ls ≡ length cs → length (cueRows rs cs ls) ≡ length cs
+unfolding cueRows
+rows-length rs [] ls e = refl
+rows-length rs (c ∷ cs) [] e = absurd (omega arith)
+rows-length rs (c ∷ cs) (m ∷ ls) e = ap suc (rows-length rs cs ls (omega arith))
+
+-- a row for each cue
+pub stored-length : (s : List ℕ) → length (storedCues s) ≡ length (lists s .cues)
+unfolding storedCues
+stored-length s = rows-length (lists s .regions) (lists s .cues) (lineSpans s) (spans-length s)
+
+-- what a text's rows say of the cues' lines is their lines in the text
+pub lines-say : (s : List ℕ) → map cueSpan (storedCues s) ≡ lineSpans s
+unfolding storedCues
+lines-say s = rows-spans (lists s .regions) (lists s .cues) (lineSpans s) (spans-length s)
+
 -- what a text's rows say is what was read
 pub rows-say :
     (s : List ℕ)
     → length s ≤ maxText
     → storedContents s ≡ contents (lists s)
-unfolding storedContents contentsOfRows contents styleRows regionRows cueRows
+unfolding storedContents contentsOfRows contents styleRows regionRows storedCues
 rows-say s l =
     let rs = lists s .regions in
     let stand = lists-stand s in
     let few : length rs ≤ greatestWord = omega (arith, regions-length s) in
-    let cues = maps (CueStands s) (cueOfRow s) (λ c. cueWords (entryIs rs c)) (cueContents rs) (λ c k. cue-same s rs c k few) (lists s .cues) (stand .cues) in
+    let cues = rows-same s rs (lists s .cues) (lineSpans s) (spans-length s) (stand .cues) few in
     let regions = maps (λ r. Stands s (r .id)) (regionOfRow s) (λ r. regionWords (regionIs r)) regionContents (region-same s) rs (stand .regions) in
     let styles = maps (Stands s) (styleOfRow s) (λ t. styleWords (spanIs t)) (λ t. t .bytes) (style-same s) (lists s .styles) (stand .styles) in
     rw (cues, regions, styles) refl

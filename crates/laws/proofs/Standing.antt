@@ -393,6 +393,11 @@ unfolding bytesOf linesAt
 bytes-lines n p [] = refl
 bytes-lines n p (l ∷ ls) = ap (λ r. l ∷ r) (bytes-lines (suc n) (p + suc (length l)) ls)
 
+pub length-bytes : (ls : List Line) → length (bytesOf ls) ≡ length ls
+unfolding bytesOf
+length-bytes [] = refl
+length-bytes (l ∷ ls) = ap suc (length-bytes ls)
+
 pub ended-append : (a b : List (List ℕ)) → afterLineEnds (a ++ b) ≡ afterLineEnds a ++ afterLineEnds b
 unfolding afterLineEnds
 ended-append [] b = refl

@@ -50,6 +50,8 @@ fn print_cue(text: &[u8], cues: &[CueRow], number: usize)
     output::field(parts::identifier_of(text, cues, number));
     output::field(parts::text_of(text, cues, number));
     print_settings(row);
+    output::number(row[CUE_FIRST_LINE]);
+    output::number(row[CUE_LINES]);
     output::print(b"\n");
 }
 

@@ -8,7 +8,7 @@ ghost use mathlib.Core.Path.{_≡_};
 ghost use lib.ListN.{length};
 ghost use Rattle.format.specs.Plain.{plainText};
 ghost use Rattle.format.specs.Lists.{lists};
-ghost use Rattle.format.specs.Rows.{cueRows, regionRows, styleRows};
+ghost use Rattle.format.specs.Rows.{regionRows, styleRows, storedCues};
 ghost use Rattle.format.specs.Answers.{refusalNumber};
 ghost use Rattle.format.specs.Converting.{convertedRoom};
 ghost use Rattle.format.specs.Reading.{reading, readingRaw, afterReading};
@@ -48,7 +48,7 @@ fn show_text(
     styles: &mut [StyleRow],
 ) -> u64
     ensures number { λ r. ⌜ r ≡ refusalNumber (reading (now (text .entry)) (length (now (cues .entry))) (length (now (regions .entry))) (length (now (styles .entry)))) ⌝ }
-    ensures cues { λ _. ⌜ now (cues .exit) ≡ afterReading (reading (now (text .entry)) (length (now (cues .entry))) (length (now (regions .entry))) (length (now (styles .entry)))) (cueRows (lists (now (text .entry)) .regions) (lists (now (text .entry)) .cues)) (now (cues .entry)) ⌝ }
+    ensures cues { λ _. ⌜ now (cues .exit) ≡ afterReading (reading (now (text .entry)) (length (now (cues .entry))) (length (now (regions .entry))) (length (now (styles .entry)))) (storedCues (now (text .entry))) (now (cues .entry)) ⌝ }
     ensures regions { λ _. ⌜ now (regions .exit) ≡ afterReading (reading (now (text .entry)) (length (now (cues .entry))) (length (now (regions .entry))) (length (now (styles .entry)))) (regionRows (lists (now (text .entry)) .regions)) (now (regions .entry)) ⌝ }
     ensures styles { λ _. ⌜ now (styles .exit) ≡ afterReading (reading (now (text .entry)) (length (now (cues .entry))) (length (now (regions .entry))) (length (now (styles .entry)))) (styleRows (lists (now (text .entry)) .styles)) (now (styles .entry)) ⌝ }
 {
@@ -78,7 +78,7 @@ pub(crate) fn show(
 ) -> u64
     ensures number { λ r. ⌜ r ≡ refusalNumber (readingRaw (now (raw .entry)) (length (now (text .entry))) (length (now (cues .entry))) (length (now (regions .entry))) (length (now (styles .entry)))) ⌝ }
     ensures text { λ _. ⌜ now (text .exit) ≡ convertedRoom (now (raw .entry)) (now (text .entry)) ⌝ }
-    ensures cues { λ _. ⌜ now (cues .exit) ≡ afterReading (readingRaw (now (raw .entry)) (length (now (text .entry))) (length (now (cues .entry))) (length (now (regions .entry))) (length (now (styles .entry)))) (cueRows (lists (plainText (now (raw .entry))) .regions) (lists (plainText (now (raw .entry))) .cues)) (now (cues .entry)) ⌝ }
+    ensures cues { λ _. ⌜ now (cues .exit) ≡ afterReading (readingRaw (now (raw .entry)) (length (now (text .entry))) (length (now (cues .entry))) (length (now (regions .entry))) (length (now (styles .entry)))) (storedCues (plainText (now (raw .entry)))) (now (cues .entry)) ⌝ }
     ensures regions { λ _. ⌜ now (regions .exit) ≡ afterReading (readingRaw (now (raw .entry)) (length (now (text .entry))) (length (now (cues .entry))) (length (now (regions .entry))) (length (now (styles .entry)))) (regionRows (lists (plainText (now (raw .entry))) .regions)) (now (regions .entry)) ⌝ }
     ensures styles { λ _. ⌜ now (styles .exit) ≡ afterReading (readingRaw (now (raw .entry)) (length (now (text .entry))) (length (now (cues .entry))) (length (now (regions .entry))) (length (now (styles .entry)))) (styleRows (lists (plainText (now (raw .entry))) .styles)) (now (styles .entry)) ⌝ }
 {

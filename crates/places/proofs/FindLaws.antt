@@ -17,23 +17,23 @@ use Rattle.format.specs.RegionSettings.{laterOr, lastNamed}
 use Rattle.format.specs.Blocks.{Line, hasSignature, blocks}
 use Rattle.format.specs.Lists.{Item, nothing, cue, style, region, isCue, itemsFrom, items, into, listed, lists, itemOver, anyOver}
 use Rattle.format.specs.Rows.{ids}
-use Rattle.format.specs.Replacing.{blockOfCue, cueBlocksFrom, cueBlocks, firstNumber, firstLine, lastLine, isThere, regionNames}
+use Rattle.format.specs.LineNumbers.{blockOfCue, cueBlocksFrom, cueBlocks, firstNumber}
+use Rattle.format.specs.Replacing.{firstLine, lastLine, isThere, regionNames}
 use Rattle.format.specs.declared.settings.Span.{Span}
 use Rattle.laws.proofs.Tests.{by-test, or-true, or-false}
 use Rattle.laws.proofs.Lines.{splits}
-use Rattle.laws.proofs.Standing.{All, ItemStands, items-stand, blocks-follow}
-use Rattle.replaced.proofs.CueBlocks.{length-bytes}
+use Rattle.laws.proofs.Standing.{All, ItemStands, items-stand, blocks-follow, length-bytes}
 use Rattle.blocks.specs.declared.collecting.Stop.{Stop}
 use Rattle.blocks.specs.declared.items.Item as Read
 use Rattle.blocks.specs.declared.items.Item.the-variants as Made
 use Rattle.blocks.specs.Collecting.{lineEnds}
 use Rattle.blocks.specs.Items.{meaningAt, BlockAt, NextAt, itemIs}
 use Rattle.laws.proofs.Rows.{stands-bytes}
-use Rattle.blocks.proofs.WalkLaws.{fresh, items-next, moves}
+use Rattle.blocks.proofs.LineLaws.{ends-more}
+use Rattle.blocks.proofs.WalkLaws.{fresh, items-next, cues-next, moves}
 use Rattle.places.specs.declared.inner.finding.Found.{Found}
 use Rattle.places.specs.Places.{OwnLines}
 use Rattle.places.specs.Finding.{withItem, FoundIn}
-use Rattle.places.proofs.PlaceLaws.{ends-more}
 
 -- a text has one line more than LF
 pub ends-split : (x : List ℕ) → length (split x) ≡ suc (lineEnds x)
@@ -222,12 +222,8 @@ module _ (s : List ℕ) (number : ℕ) (name : List ℕ) (at : ℕ) where
       laterCues = cueBlocksFrom (seen || isCue item) (fresh s (st .at))
 
       -- what is to come begins with this block
-      cues-next : cueBlocksFrom seen (fresh s at) ≡ blockOfCue item (next .block .lines) ++ laterCues
-      unfolding cueBlocksFrom
-      cues-next = let b = next .block in ap (cueBlocksFrom seen) (next .same ∙ b .divides) ∙ rw (b .meant seen)
-
       with-next : Left s number name (item ∷ later) (blockOfCue item (next .block .lines) ++ laterCues) f
-      with-next = rw (items-next s at from st seen next, cues-next) at (h .left)
+      with-next = rw (items-next s at from st seen next, cues-next s at from st seen next) at (h .left)
 
       -- a block with a number above its limit, and any other block
       pub walk-over : itemOver item ≡ true → anyOver (items s) ≡ true

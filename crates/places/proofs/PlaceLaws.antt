@@ -1,4 +1,4 @@
--- Line ends before a place of a text, and where a raw line starts and ends, as a loop goes over the bytes.
+-- Where a raw line starts and ends, as a loop goes over the bytes.
 use Prim.Native.Nat.{ℕ, zero, suc, _+_, _-_, _≤_, _<_}
 use mathlib.Core.Path.{_≡_, refl, sym, ap, _∙_}
 use mathlib.Core.Bool.{Bool, cond}
@@ -14,26 +14,7 @@ use Rattle.format.specs.Texts.{startsWith}
 use Rattle.format.specs.Replacing.{RawLine, emptyLine, onRawLine, onEnding, beforeLines, rawLines, rawBytes, rawStart, rawEnd}
 use Rattle.laws.proofs.Tests.{by-test}
 use Rattle.replaced.proofs.RawLines.{lf-first}
-use Rattle.blocks.specs.Collecting.{lineEnds}
-use Rattle.blocks.proofs.LineLaws.{ends-append}
 use Rattle.places.specs.Places.{endsLine}
-
--- the line ends up to a place, with one byte more
-pub ends-next :
-    (s : List ℕ) (i : ℕ)
-    → i < length s
-    → (t : Bool)
-    → eqb (getD s i 0) lf ≡ t
-    → lineEnds (take (i + 1) s) ≡ lineEnds (take i s) + cond t 1 0
-unfolding lineEnds
-ends-next s i l t e = rw (sym e, add-one i, take-suc s i 0 l) (omega (arith, ends-append (take i s) (getD s i 0 ∷ [])))
-
--- the line ends up to a place, with those from there up to another
-pub ends-more :
-    (s : List ℕ) (from to : ℕ) → from ≤ to → lineEnds (take to s) ≡ lineEnds (take from s) + lineEnds (take (to - from) (drop from s))
-ends-more s from to l =
-    let e : to ≡ from + (to - from) = omega arith in
-    ap (λ i. lineEnds (take i s)) e ∙ ap lineEnds (take-add from (to - from) s) ∙ ends-append (take from s) (take (to - from) (drop from s))
 
 -- line n of ls is line m of ms, and starts one byte later
 record Later (ls ms : List RawLine) (n m : ℕ) : Type 0 where

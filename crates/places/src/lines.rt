@@ -1,26 +1,10 @@
-// Lines by their numbers: how many line ends a plain text has, and where a line of a raw file starts and ends. A line is sought from one
-// before it, so that the bytes of a long file are gone over once.
+// Lines by their numbers: where a line of a raw file starts and ends. A line is sought from one before it, so that the bytes of a long file
+// are gone over once.
 ghost use mathlib.Core.Path.{_≡_};
 ghost use Prim.Native.Nat.{_+_, _<_};
 ghost use lib.ListN.{length, getD, drop};
 ghost use Rattle.format.specs.Replacing.{rawStart, rawEnd};
-ghost use Rattle.blocks.specs.Collecting.{lineEnds};
 ghost use Rattle.places.specs.Places.{endsLine};
-
-// How many line ends a plain text or a part of it has.
-pub fn line_ends(s: &[u8]) -> usize
-    ensures { λ r. ⌜ r ≡ lineEnds (now (s .entry)) ⌝ }
-{
-    let mut i = 0;
-    let mut n = 0;
-    while i < s.len() {
-        if s[i] == b'\n' {
-            n += 1;
-        }
-        i += 1;
-    }
-    n
-}
 
 // Where the line of a raw file starts that is `n` lines after the one that starts at `from`; the file's end where it has fewer lines.
 pub fn raw_start(raw: &[u8], from: usize, n: usize) -> usize

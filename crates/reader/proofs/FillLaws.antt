@@ -2,7 +2,7 @@
 use Prim.Native.Nat.{ℕ, _+_, _≤_}
 use mathlib.Core.Path.{_≡_, refl, sym, ap, subst, _∙_}
 use mathlib.Core.Bool.{Bool, true, false, _||_}
-use mathlib.Core.List.{List, [], _∷_}
+use mathlib.Core.List.{List, [], _∷_, _++_, map}
 use native.Mathlib.Omega.{arith}
 use lib.Dec.{ltb}
 use lib.ListN.{length, length-map, take, set}
@@ -10,25 +10,27 @@ use lib.Seq.{take-length}
 use Rattle.format.specs.Texts.{Part}
 use Rattle.format.specs.CueSettings.{spanIs}
 use Rattle.format.specs.RegionSettings.{RegionValues, regionIs}
-use Rattle.format.specs.Blocks.{blocks}
+use Rattle.format.specs.Blocks.{Line, blocks}
 use Rattle.format.specs.Answers.{placed}
 use Rattle.format.specs.Lists.{Cue, Item, nothing, cue, style, region, isCue, itemsFrom, items, into, listed, lists, itemOver, anyOver}
 use Rattle.format.specs.Contents.{regionOfEntry}
 use Rattle.format.specs.Writable.{namesOf}
 use Rattle.format.specs.Replacing.{regionAsked}
-use Rattle.format.specs.Rows.{cueWords, regionWords, styleWords, ids, indexIs, regionFor, entryIs, cueRows, regionRows, styleRows}
+use Rattle.format.specs.Rows.{cueWords, regionWords, styleWords, ids, indexIs, regionFor, entryIs, cueRows, regionRows, styleRows, storedCues}
+use Rattle.format.specs.LineNumbers.{blockOfCue, cueBlocksFrom, cueBlocks, lineSpan, lineSpans}
+use Rattle.format.specs.declared.rows.LineSpan.{LineSpan}
 use Rattle.laws.proofs.Tests.{or-true, or-first, or-second}
 use Rattle.laws.proofs.Filling.{Fills, fills-start, fills-room, fills-some, fills-next, fills-all, fills-end, fills-front}
 use Rattle.laws.proofs.Standing.{Stands, All, CueStands, ItemStands, items-stand, blocks-follow, lists-stand}
 use Rattle.laws.proofs.Lists.{no-regions-after}
-use Rattle.laws.proofs.Rows.{stands-bytes}
+use Rattle.laws.proofs.Rows.{stands-bytes, stored-length}
 use Rattle.lookup.specs.Known.{askedAt}
 use Rattle.blocks.specs.declared.collecting.Stop.{Stop}
 use Rattle.blocks.specs.Items.{meaningAt, NextAt, cueIs, itemIs}
 use Rattle.reader.specs.declared.counting.Counts.{Counts}
 use Rattle.reader.specs.Counting.{withItem}
 use Rattle.reader.specs.Filling.{entryOf, cuesWith, regionsWith, stylesWith, RoomFor}
-use Rattle.blocks.proofs.WalkLaws.{fresh, items-next, moves}
+use Rattle.blocks.proofs.WalkLaws.{fresh, items-next, cues-next, moves}
 use Rattle.reader.proofs.CountLaws.{seen-next, with-most}
 
 rows-ids : (s : List ℕ) (rs : List RegionValues) → All (λ r. Stands s (r .id)) rs → namesOf s (regionRows rs) ≡ ids rs
@@ -55,7 +57,7 @@ entry-is s rs c all h = rw (region-found s rs (c .region) all (h .region))
 
 -- the tables are long enough
 pub record Fits (s : List ℕ) (cues₀ regions₀ styles₀ : List (List ℕ)) : Type 0 where
-  pub cues : length (cueRows (lists s .regions) (lists s .cues)) ≤ length cues₀
+  pub cues : length (storedCues s) ≤ length cues₀
   pub regions : length (regionRows (lists s .regions)) ≤ length regions₀
   pub styles : length (styleRows (lists s .styles)) ≤ length styles₀
 
@@ -63,25 +65,29 @@ module _ (s : List ℕ) (cues₀ regions₀ styles₀ : List (List ℕ)) where
   abbrev allRegions : List RegionValues
   allRegions = lists s .regions
 
-  -- n entries are stored, and these items are to come
-  pub record Stored (n : Counts) (is : List Item) (cues regions styles : List (List ℕ)) : Type 0 where
+  -- the rows of cues that have the lines of these blocks
+  abbrev rowsOf : List Cue → List (List Line) → List (List ℕ)
+  rowsOf cs bs = cueRows allRegions cs (map lineSpan bs)
+
+  -- n entries are stored, and these items and these blocks of cues are to come
+  pub record Stored (n : Counts) (is : List Item) (bs : List (List Line)) (cues regions styles : List (List ℕ)) : Type 0 where
     pub within : anyOver is ≡ false
     pub stand : All (ItemStands s) is
-    pub cues-full : Fills (cueRows allRegions (lists s .cues)) cues₀ cues (cueRows allRegions (listed is .cues)) (n .cues)
+    pub cues-full : Fills (storedCues s) cues₀ cues (rowsOf (listed is .cues) bs) (n .cues)
     pub regions-full : Fills (regionRows allRegions) regions₀ regions (regionRows (listed is .regions)) (n .regions)
     pub styles-full : Fills (styleRows (lists s .styles)) styles₀ styles (styleRows (listed is .styles)) (n .styles)
 
-  module _ (fits : Fits s cues₀ regions₀ styles₀) (n : Counts) (is : List Item) (cues regions styles : List (List ℕ)) where
-    pub room : (i : Item) → Stored n (i ∷ is) cues regions styles → RoomFor (itemIs i) n (length cues) (length regions) (length styles)
-    unfolding listed into anyOver itemOver cueRows regionRows styleRows
+  module _ (fits : Fits s cues₀ regions₀ styles₀) (n : Counts) (is : List Item) (b : List Line) (bs : List (List Line)) (cues regions styles : List (List ℕ)) where
+    pub room : (i : Item) → Stored n (i ∷ is) (blockOfCue i b ++ bs) cues regions styles → RoomFor (itemIs i) n (length cues) (length regions) (length styles)
+    unfolding listed into anyOver itemOver isCue blockOfCue cueRows regionRows styleRows
     room nothing st = tt
     room (cue c over) st =
         let f = st .cues-full in
         let g = st .regions-full in
-        let left = cueRows allRegions (listed is .cues) in
-        let row = cueWords (entryIs allRegions c) in
+        let left = rowsOf (listed is .cues) bs in
+        let row = cueWords (entryIs allRegions c) (lineSpan b) in
         rw (or-first over (anyOver is) (st .within)) (
-          omega (arith, fits .cues, fills-room (cueRows allRegions (lists s .cues)) cues₀ (fits .cues) cues (n .cues) (row ∷ left) f, fills-some (cueRows allRegions (lists s .cues)) cues₀ (fits .cues) cues (n .cues) row left f),
+          omega (arith, fits .cues, fills-room (storedCues s) cues₀ (fits .cues) cues (n .cues) (row ∷ left) f, fills-some (storedCues s) cues₀ (fits .cues) cues (n .cues) row left f),
           omega (arith, fits .regions, g .most, fills-room (regionRows allRegions) regions₀ (fits .regions) regions (n .regions) (regionRows (listed is .regions)) g),
         )
     room (style t) st =
@@ -108,23 +114,23 @@ module _ (s : List ℕ) (cues₀ regions₀ styles₀ : List (List ℕ)) where
     pub store :
         (i : Item)
         → (isCue i ≡ true → listed is .regions ≡ [])
-        → Stored n (i ∷ is) cues regions styles
-        → Stored (withItem (itemIs i) n) is (cuesWith s (itemIs i) n regions cues) (regionsWith (itemIs i) n regions) (stylesWith (itemIs i) n styles)
-    unfolding listed into anyOver itemOver isCue cueRows regionRows styleRows
+        → Stored n (i ∷ is) (blockOfCue i b ++ bs) cues regions styles
+        → Stored (withItem (itemIs i) n) is bs (cuesWith s (itemIs i) (lineSpan b) n regions cues) (regionsWith (itemIs i) n regions) (stylesWith (itemIs i) n styles)
+    unfolding listed into anyOver itemOver isCue blockOfCue cueRows regionRows styleRows
     store nothing only st =
         record { within = st .within; stand = st .stand .1; cues-full = st .cues-full; regions-full = st .regions-full; styles-full = st .styles-full }
     store (cue c over) only st =
         let entry : entryOf s (take (n .regions) regions) (cueIs c) ≡ entryIs allRegions c =
         ap (λ rows. entryOf s rows (cueIs c)) (regions-stored (only refl) (st .regions-full)) ∙ entry-is s allRegions c (lists-stand s .regions) (st .stand .0) in
-        let whole = cueRows allRegions (lists s .cues) in
-        let left = cueRows allRegions (listed is .cues) in
+        let whole = storedCues s in
+        let left = rowsOf (listed is .cues) bs in
         rw (or-first over (anyOver is) (st .within))
         (record {
           within = or-second over (anyOver is) (st .within);
           stand = st .stand .1;
           cues-full =
-              subst (λ e. Fills whole cues₀ (set cues (n .cues) (cueWords e)) left (n .cues + 1)) (sym entry)
-              (fills-next whole cues₀ (fits .cues) cues (n .cues) (cueWords (entryIs allRegions c)) left (st .cues-full));
+              subst (λ e. Fills whole cues₀ (set cues (n .cues) (cueWords e (lineSpan b))) left (n .cues + 1)) (sym entry)
+              (fills-next whole cues₀ (fits .cues) cues (n .cues) (cueWords (entryIs allRegions c) (lineSpan b)) left (st .cues-full));
           regions-full = st .regions-full;
           styles-full = st .styles-full;
         })
@@ -152,7 +158,7 @@ module _ (s : List ℕ) (cues₀ regions₀ styles₀ : List (List ℕ)) where
     pub cues-most : n .cues ≤ at
     pub regions-most : n .regions ≤ at
     pub styles-most : n .styles ≤ at
-    pub stored : Stored n (itemsFrom (ltb 0 (n .cues)) (fresh s at)) cues regions styles
+    pub stored : Stored n (itemsFrom (ltb 0 (n .cues)) (fresh s at)) (cueBlocksFrom (ltb 0 (n .cues)) (fresh s at)) cues regions styles
 
   pub fill-start :
       (from : ℕ)
@@ -160,20 +166,19 @@ module _ (s : List ℕ) (cues₀ regions₀ styles₀ : List (List ℕ)) where
       → blocks s ≡ fresh s from
       → anyOver (items s) ≡ false
       → Filled from (record { cues = 0; regions = 0; styles = 0 }) cues₀ regions₀ styles₀
-  unfolding items lists
+  unfolding items lists storedCues lineSpans cueBlocks
   fill-start from l e w =
-      let all : itemsFrom false (blocks s) ≡ itemsFrom false (fresh s from) = ap (itemsFrom false) e in
       record {
         inside = l;
         cues-most = omega arith;
         regions-most = omega arith;
         styles-most = omega arith;
         stored =
-            rw (sym all)
+            rw (sym e)
             (record {
               within = w;
               stand = items-stand s false (blocks s) (blocks-follow s);
-              cues-full = fills-start (cueRows allRegions (lists s .cues)) cues₀;
+              cues-full = fills-start (storedCues s) cues₀;
               regions-full = fills-start (regionRows allRegions) regions₀;
               styles-full = fills-start (styleRows (lists s .styles)) styles₀;
             });
@@ -189,8 +194,14 @@ module _ (s : List ℕ) (cues₀ regions₀ styles₀ : List (List ℕ)) where
     abbrev beyond : List Item
     beyond = itemsFrom (seen || isCue item) (fresh s (st .at))
 
-    now-stored : Stored n (item ∷ beyond) cues regions styles
-    now-stored = rw (items-next s at from st seen next) at (f .stored)
+    abbrev block : List Line
+    block = next .block .lines
+
+    abbrev laterCues : List (List Line)
+    laterCues = cueBlocksFrom (seen || isCue item) (fresh s (st .at))
+
+    now-stored : Stored n (item ∷ beyond) (blockOfCue item block ++ laterCues) cues regions styles
+    now-stored = rw (items-next s at from st seen next, cues-next s at from st seen next) at (f .stored)
 
     only : isCue item ≡ true → listed beyond .regions ≡ []
     only y = rw (y, or-true seen) (no-regions-after (fresh s (st .at)))
@@ -200,11 +211,13 @@ module _ (s : List ℕ) (cues₀ regions₀ styles₀ : List (List ℕ)) where
     within = or-first (itemOver item) (anyOver beyond) (now-stored .within)
 
     pub fill-room : RoomFor (itemIs item) n (length cues) (length regions) (length styles)
-    fill-room = room fits n beyond cues regions styles item now-stored
+    fill-room = room fits n beyond block laterCues cues regions styles item now-stored
 
     pub fill-next :
-        Filled (st .at) (withItem (itemIs item) n) (cuesWith s (itemIs item) n regions cues) (regionsWith (itemIs item) n regions) (stylesWith (itemIs item) n styles)
-    fill-next =
+        (lines : LineSpan)
+        → lines ≡ lineSpan block
+        → Filled (st .at) (withItem (itemIs item) n) (cuesWith s (itemIs item) lines n regions cues) (regionsWith (itemIs item) n regions) (stylesWith (itemIs item) n styles)
+    fill-next lines e =
         let far = moves s at from st next in
         let most = with-most (itemIs item) n in
         record {
@@ -212,19 +225,19 @@ module _ (s : List ℕ) (cues₀ regions₀ styles₀ : List (List ℕ)) where
           cues-most = omega (arith, far, most .0, f .cues-most);
           regions-most = omega (arith, far, most .1, f .regions-most);
           styles-most = omega (arith, far, most .2, f .styles-most);
-          stored = rw (seen-next n item within) (store fits n beyond cues regions styles item only now-stored);
+          stored = rw (e, seen-next n item within) (store fits n beyond block laterCues cues regions styles item only now-stored);
         }
 
   -- the tables when no block is left
   module _ (fits : Fits s cues₀ regions₀ styles₀) (at : ℕ) (n : Counts) (cues regions styles : List (List ℕ)) (f : Filled at n cues regions styles) (none : fresh s at ≡ []) where
     pub fill-end :
-        (cues ≡ placed (cueRows allRegions (lists s .cues)) cues₀)
+        (cues ≡ placed (storedCues s) cues₀)
         × (regions ≡ placed (regionRows allRegions) regions₀)
         × (styles ≡ placed (styleRows (lists s .styles)) styles₀)
-    unfolding placed itemsFrom listed cueRows regionRows styleRows
+    unfolding placed itemsFrom listed cueBlocksFrom cueRows regionRows styleRows
     fill-end =
-        let st : Stored n [] cues regions styles = rw none at (f .stored) in (
-          fills-end (cueRows allRegions (lists s .cues)) cues₀ (fits .cues) cues (n .cues) (st .cues-full),
+        let st : Stored n [] [] cues regions styles = rw none at (f .stored) in (
+          fills-end (storedCues s) cues₀ (fits .cues) cues (n .cues) (st .cues-full),
           fills-end (regionRows allRegions) regions₀ (fits .regions) regions (n .regions) (st .regions-full),
           fills-end (styleRows (lists s .styles)) styles₀ (fits .styles) styles (n .styles) (st .styles-full),
         )
@@ -235,10 +248,10 @@ pub fits-of :
     → length (lists s .regions) ≤ length regions₀
     → length (lists s .styles) ≤ length styles₀
     → Fits s cues₀ regions₀ styles₀
-unfolding cueRows regionRows styleRows
+unfolding regionRows styleRows
 fits-of s cues₀ regions₀ styles₀ a b c =
     record {
-      cues = rw (length-map (lists s .cues) (λ q. cueWords (entryIs (lists s .regions) q))) a;
+      cues = rw (stored-length s) a;
       regions = rw (length-map (lists s .regions) (λ r. regionWords (regionIs r))) b;
       styles = rw (length-map (lists s .styles) (λ t. styleWords (spanIs t))) c;
     }
@@ -251,8 +264,9 @@ pub fill-lengths :
     → (length cues ≡ length cues₀) × (length regions ≡ length regions₀) × (length styles ≡ length styles₀)
 fill-lengths s cues₀ regions₀ styles₀ at n cues regions styles fits f =
     let st = f .stored in
-    let left = listed (itemsFrom (ltb 0 (n .cues)) (fresh s at)) in (
-      fills-room (cueRows (lists s .regions) (lists s .cues)) cues₀ (fits .cues) cues (n .cues) (cueRows (lists s .regions) (left .cues)) (st .cues-full),
+    let seen = ltb 0 (n .cues) in
+    let left = listed (itemsFrom seen (fresh s at)) in (
+      fills-room (storedCues s) cues₀ (fits .cues) cues (n .cues) (rowsOf s cues₀ regions₀ styles₀ (left .cues) (cueBlocksFrom seen (fresh s at))) (st .cues-full),
       fills-room (regionRows (lists s .regions)) regions₀ (fits .regions) regions (n .regions) (regionRows (left .regions)) (st .regions-full),
       fills-room (styleRows (lists s .styles)) styles₀ (fits .styles) styles (n .styles) (styleRows (left .styles)) (st .styles-full),
     )

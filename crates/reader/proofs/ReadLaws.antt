@@ -14,7 +14,7 @@ use Rattle.format.specs.Limits.{maxText}
 use Rattle.format.specs.Plain.{firstNotPlain}
 use Rattle.format.specs.Blocks.{hasSignature}
 use Rattle.format.specs.Lists.{items, lists, anyOver}
-use Rattle.format.specs.Rows.{cueRows, regionRows, styleRows}
+use Rattle.format.specs.Rows.{regionRows, styleRows, storedCues}
 use Rattle.format.specs.Answers.{refused, ifAccepted, placed}
 use Rattle.format.specs.Converting.{plainnessIs, testing}
 use Rattle.format.specs.Reading.{readingIs, reading, counts, afterReading}
@@ -82,12 +82,12 @@ pub nothing-changes :
     → Refuses s r
     → (cues regions styles : List (List ℕ))
     → (readingIs r ≡ reading s (length cues) (length regions) (length styles))
-    × ((cues ≡ afterReading (readingIs r) (cueRows (lists s .regions) (lists s .cues)) cues)
+    × ((cues ≡ afterReading (readingIs r) (storedCues s) cues)
     × ((regions ≡ afterReading (readingIs r) (regionRows (lists s .regions)) regions)
     × (styles ≡ afterReading (readingIs r) (styleRows (lists s .styles)) styles)))
 nothing-changes s r refusal cues regions styles = (
   refusal .answer (length cues) (length regions) (length styles),
-  (refusal .unchanged (cueRows (lists s .regions) (lists s .cues)) cues, (refusal .unchanged (regionRows (lists s .regions)) regions, refusal .unchanged (styleRows (lists s .styles)) styles)),
+  (refusal .unchanged (storedCues s) cues, (refusal .unchanged (regionRows (lists s .regions)) regions, refusal .unchanged (styleRows (lists s .styles)) styles)),
 )
 
 -- the answer of a readable text, by the tables' lengths

@@ -4,6 +4,7 @@ use mathlib.Core.List.{List}
 use lib.ListN.{take, set}
 use Rattle.format.specs.Rows.{cueWords, regionWords, styleWords}
 use Rattle.format.specs.declared.rows.CueEntry.{CueEntry}
+use Rattle.format.specs.declared.rows.LineSpan.{LineSpan}
 use Rattle.lookup.specs.Known.{askedAt}
 use Rattle.blocks.specs.declared.items.CueRead.{CueRead}
 use Rattle.blocks.specs.declared.items.Item.{Item}
@@ -21,13 +22,13 @@ entryOf s rows c =
       region = askedAt s rows (c .region);
     }
 
--- the tables after one item, n being the counts before it
-abbrev pub cuesWith : List ℕ → Item → Counts → List (List ℕ) → List (List ℕ) → List (List ℕ)
-cuesWith s Item.Nothing n regions cues = cues
-cuesWith s Item.Over n regions cues = cues
-cuesWith s (Item.Cue c) n regions cues = set cues (n .cues) (cueWords (entryOf s (take (n .regions) regions) c))
-cuesWith s (Item.Style t) n regions cues = cues
-cuesWith s (Item.Region r) n regions cues = cues
+-- the tables after one item, whose block has these lines, n being the counts before it
+abbrev pub cuesWith : List ℕ → Item → LineSpan → Counts → List (List ℕ) → List (List ℕ) → List (List ℕ)
+cuesWith s Item.Nothing lines n regions cues = cues
+cuesWith s Item.Over lines n regions cues = cues
+cuesWith s (Item.Cue c) lines n regions cues = set cues (n .cues) (cueWords (entryOf s (take (n .regions) regions) c) lines)
+cuesWith s (Item.Style t) lines n regions cues = cues
+cuesWith s (Item.Region r) lines n regions cues = cues
 
 abbrev pub regionsWith : Item → Counts → List (List ℕ) → List (List ℕ)
 regionsWith Item.Nothing n regions = regions

@@ -11,7 +11,7 @@ ghost use Rattle.format.specs.Limits.{maxText};
 ghost use Rattle.format.specs.Plain.{firstNotPlain};
 ghost use Rattle.format.specs.Blocks.{between, blocksFrom};
 ghost use Rattle.format.specs.Lists.{itemsFrom};
-ghost use Rattle.blocks.specs.Collecting.{linesFrom};
+ghost use Rattle.blocks.specs.Collecting.{linesFrom, headerEnd};
 ghost use Rattle.reader.specs.Counting.{withKind, tallyIs, countedIs, MeasuredIs};
 
 // How many entries each list has so far.
@@ -95,13 +95,13 @@ fn counted(tally: Tally) -> Reading
     }
 }
 
-// The counts of a plain text's lists, or the first refusal that the text gives.
-pub(crate) fn measure(s: &[u8]) -> Reading
-    requires { ⌜ (length (now s) ≤ maxText) × (length (now s) ≤ firstNotPlain (now s)) ⌝ }
+// The counts of a plain text's lists, or the first refusal that the text gives. Its header ends at `from`.
+pub(crate) fn measure(s: &[u8], from: usize) -> Reading
+    requires { ⌜ (length (now s) ≤ maxText) × (length (now s) ≤ firstNotPlain (now s)) × (from ≡ headerEnd (now s)) ⌝ }
     ensures { λ r. ⌜ MeasuredIs (now (s .entry)) r ⌝ }
 {
     if !blocks::has_signature(s) {
         return Reading::NoSignature;
     }
-    counted(count_items(s, blocks::past_header(s)))
+    counted(count_items(s, from))
 }

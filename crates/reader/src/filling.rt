@@ -8,6 +8,7 @@ use blocks::items::Item;
 use blocks::items::ItemKind;
 use format::rows::CueEntry;
 use format::rows::CueRow;
+use format::rows::LineSpan;
 use format::rows::RegionRow;
 use format::rows::StyleRow;
 use lookup::inner::KNOWN_ROWS;
@@ -21,7 +22,7 @@ ghost use lib.ListN.{length, take};
 ghost use Rattle.format.specs.Limits.{maxText};
 ghost use Rattle.format.specs.Blocks.{between, blocksFrom, blocks};
 ghost use Rattle.format.specs.Lists.{items, lists, anyOver};
-ghost use Rattle.format.specs.Rows.{cueRows, regionRows, styleRows};
+ghost use Rattle.format.specs.Rows.{regionRows, styleRows, storedCues};
 ghost use Rattle.format.specs.Answers.{placed};
 ghost use Rattle.blocks.specs.Collecting.{linesFrom};
 ghost use Rattle.blocks.specs.Items.{meaningAt, PlacesIn, itemIs, kindIs};
@@ -50,11 +51,23 @@ fn entry(text: &[u8], cue: CueRead, regions: &[RegionRow], known: &mut [KnownRow
     }
 }
 
-// Stores the row of what a block gives after the rows of its list, and tells what that was. The item is made here, so that it is not copied.
+// The lines of a block whose first line has this number.
+fn lines_of(first: usize, stop: Stop) -> LineSpan
+    ensures { λ r. ⌜ r ≡ record { first = first; count = stop .lines } ⌝ }
+{
+    LineSpan {
+        first: first as u64,
+        count: stop.lines as u64,
+    }
+}
+
+// Stores the row of what a block gives after the rows of its list, and tells what that was. The block's first line has the number `first`. The
+// item is made here, so that it is not copied.
 fn put(
     text: &[u8],
     from: usize,
     stop: Stop,
+    first: usize,
     n: Counts,
     known: &mut [KnownRow],
     cues: &mut [CueRow],
@@ -67,7 +80,7 @@ fn put(
     requires { ⌜ RoomFor (itemIs (meaningAt (ltb 0 (n .cues)) (now text) from stop)) n (length (now cues)) (length (now regions)) (length (now styles)) ⌝ }
     ensures kind { λ r. ⌜ r ≡ kindIs (itemIs (meaningAt (ltb 0 (n .cues)) (now (text .entry)) from stop)) ⌝ }
     ensures known { λ _. ⌜ AllRight (now (text .entry)) (take (withItem (itemIs (meaningAt (ltb 0 (n .cues)) (now (text .entry)) from stop)) n .regions) (now (regions .exit))) (now (known .exit)) ⌝ }
-    ensures cues { λ _. ⌜ now (cues .exit) ≡ cuesWith (now (text .entry)) (itemIs (meaningAt (ltb 0 (n .cues)) (now (text .entry)) from stop)) n (now (regions .entry)) (now (cues .entry)) ⌝ }
+    ensures cues { λ _. ⌜ now (cues .exit) ≡ cuesWith (now (text .entry)) (itemIs (meaningAt (ltb 0 (n .cues)) (now (text .entry)) from stop)) (record { first = first; count = stop .lines }) n (now (regions .entry)) (now (cues .entry)) ⌝ }
     ensures regions { λ _. ⌜ now (regions .exit) ≡ regionsWith (itemIs (meaningAt (ltb 0 (n .cues)) (now (text .entry)) from stop)) n (now (regions .entry)) ⌝ }
     ensures styles { λ _. ⌜ now (styles .exit) ≡ stylesWith (itemIs (meaningAt (ltb 0 (n .cues)) (now (text .entry)) from stop)) n (now (styles .entry)) ⌝ }
 {
@@ -79,7 +92,8 @@ fn put(
         Item::Over => ItemKind::Over,
         Item::Cue(cue) => {
             let at = n.cues;
-            cues[at] = rows::cue_row(entry(text, cue, &regions[..n.regions], known));
+            let lines = lines_of(first, stop);
+            cues[at] = rows::cue_row(entry(text, cue, &regions[..n.regions], known), lines);
             ItemKind::Cue
         }
         Item::Style(part) => {
@@ -105,11 +119,13 @@ pub(crate) fn fill(
 )
     requires { ⌜ (from ≤ length (now text)) × (length (now text) ≤ maxText) × (blocks (now text) ≡ blocksFrom between (linesFrom (now text) from)) × (anyOver (items (now text)) ≡ false) ⌝ }
     requires { ⌜ (length (lists (now text) .cues) ≤ length (now cues)) × (length (lists (now text) .regions) ≤ length (now regions)) × (length (lists (now text) .styles) ≤ length (now styles)) ⌝ }
-    ensures cues { λ _. ⌜ now (cues .exit) ≡ placed (cueRows (lists (now (text .entry)) .regions) (lists (now (text .entry)) .cues)) (now (cues .entry)) ⌝ }
+    ensures cues { λ _. ⌜ now (cues .exit) ≡ placed (storedCues (now (text .entry))) (now (cues .entry)) ⌝ }
     ensures regions { λ _. ⌜ now (regions .exit) ≡ placed (regionRows (lists (now (text .entry)) .regions)) (now (regions .entry)) ⌝ }
     ensures styles { λ _. ⌜ now (styles .exit) ≡ placed (styleRows (lists (now (text .entry)) .styles)) (now (styles .entry)) ⌝ }
 {
     let mut at = from;
+    // The number of the line at that place, from 1.
+    let mut line = blocks::line_ends(&text[..from]) + 1;
     let mut n = Counts::NONE;
     let mut known = [[0; KNOWN_WORDS]; KNOWN_ROWS];
     loop {
@@ -117,12 +133,25 @@ pub(crate) fn fill(
         let Next::Block { from: begin, stop } = next else {
             return;
         };
-        let kind = put(text, begin, stop, n, &mut known, cues, regions, styles);
+        // Empty lines stand between, a byte each.
+        let first = line + (begin - at);
+        let kind = put(
+            text,
+            begin,
+            stop,
+            first,
+            n,
+            &mut known,
+            cues,
+            regions,
+            styles,
+        );
         let why = stop.why;
         if is_last(why) {
             return;
         }
         n = n.with_kind(kind);
+        line = first + stop.lines;
         at = stop.at;
     }
 }

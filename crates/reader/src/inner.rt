@@ -13,7 +13,7 @@ ghost use lib.ListN.{length};
 ghost use Rattle.format.specs.Limits.{maxText};
 ghost use Rattle.format.specs.Plain.{firstNotPlain};
 ghost use Rattle.format.specs.Lists.{lists};
-ghost use Rattle.format.specs.Rows.{cueRows, regionRows, styleRows};
+ghost use Rattle.format.specs.Rows.{regionRows, styleRows, storedCues};
 ghost use Rattle.format.specs.Reading.{readingIs, reading, afterReading};
 
 // Is one of three tables shorter than it has to be.
@@ -38,11 +38,12 @@ pub fn read_plain(
 ) -> Reading
     requires { ⌜ (length (now text) ≤ maxText) × (length (now text) ≤ firstNotPlain (now text)) ⌝ }
     ensures answer { λ r. ⌜ readingIs r ≡ reading (now (text .entry)) (length (now (cues .entry))) (length (now (regions .entry))) (length (now (styles .entry))) ⌝ }
-    ensures cues { λ r. ⌜ now (cues .exit) ≡ afterReading (readingIs r) (cueRows (lists (now (text .entry)) .regions) (lists (now (text .entry)) .cues)) (now (cues .entry)) ⌝ }
+    ensures cues { λ r. ⌜ now (cues .exit) ≡ afterReading (readingIs r) (storedCues (now (text .entry))) (now (cues .entry)) ⌝ }
     ensures regions { λ r. ⌜ now (regions .exit) ≡ afterReading (readingIs r) (regionRows (lists (now (text .entry)) .regions)) (now (regions .entry)) ⌝ }
     ensures styles { λ r. ⌜ now (styles .exit) ≡ afterReading (readingIs r) (styleRows (lists (now (text .entry)) .styles)) (now (styles .entry)) ⌝ }
 {
-    let measured = counting::measure(text);
+    let from = blocks::past_header(text);
+    let measured = counting::measure(text, from);
     let Reading::Lists {
         cues: c,
         regions: r,
@@ -63,6 +64,6 @@ pub fn read_plain(
             styles: s,
         };
     }
-    filling::fill(text, blocks::past_header(text), cues, regions, styles);
+    filling::fill(text, from, cues, regions, styles);
     measured
 }

@@ -9,7 +9,7 @@ use format::rows::StyleRow;
 ghost use mathlib.Core.Path.{_≡_};
 ghost use lib.ListN.{length};
 ghost use Rattle.format.specs.Lists.{lists};
-ghost use Rattle.format.specs.Rows.{cueRows, regionRows, styleRows};
+ghost use Rattle.format.specs.Rows.{regionRows, styleRows, storedCues};
 ghost use Rattle.format.specs.Plain.{plainText};
 ghost use Rattle.format.specs.Converting.{convertedRoom};
 ghost use Rattle.format.specs.Reading.{readingIs, reading, readingRaw, fileReadingIs, fileReading, afterReading};
@@ -27,7 +27,7 @@ pub fn read(
     styles: &mut [StyleRow],
 ) -> Reading
     ensures answer { λ r. ⌜ readingIs r ≡ reading (now (text .entry)) (length (now (cues .entry))) (length (now (regions .entry))) (length (now (styles .entry))) ⌝ }
-    ensures cues { λ r. ⌜ now (cues .exit) ≡ afterReading (readingIs r) (cueRows (lists (now (text .entry)) .regions) (lists (now (text .entry)) .cues)) (now (cues .entry)) ⌝ }
+    ensures cues { λ r. ⌜ now (cues .exit) ≡ afterReading (readingIs r) (storedCues (now (text .entry))) (now (cues .entry)) ⌝ }
     ensures regions { λ r. ⌜ now (regions .exit) ≡ afterReading (readingIs r) (regionRows (lists (now (text .entry)) .regions)) (now (regions .entry)) ⌝ }
     ensures styles { λ r. ⌜ now (styles .exit) ≡ afterReading (readingIs r) (styleRows (lists (now (text .entry)) .styles)) (now (styles .entry)) ⌝ }
 {
@@ -82,7 +82,7 @@ pub fn read_file(
 ) -> FileReading
     ensures answer { λ r. ⌜ fileReadingIs r ≡ fileReading (now (raw .entry)) (length (now (text .entry))) (length (now (cues .entry))) (length (now (regions .entry))) (length (now (styles .entry))) ⌝ }
     ensures text { λ _. ⌜ now (text .exit) ≡ convertedRoom (now (raw .entry)) (now (text .entry)) ⌝ }
-    ensures cues { λ _. ⌜ now (cues .exit) ≡ afterReading (readingRaw (now (raw .entry)) (length (now (text .entry))) (length (now (cues .entry))) (length (now (regions .entry))) (length (now (styles .entry)))) (cueRows (lists (plainText (now (raw .entry))) .regions) (lists (plainText (now (raw .entry))) .cues)) (now (cues .entry)) ⌝ }
+    ensures cues { λ _. ⌜ now (cues .exit) ≡ afterReading (readingRaw (now (raw .entry)) (length (now (text .entry))) (length (now (cues .entry))) (length (now (regions .entry))) (length (now (styles .entry)))) (storedCues (plainText (now (raw .entry)))) (now (cues .entry)) ⌝ }
     ensures regions { λ _. ⌜ now (regions .exit) ≡ afterReading (readingRaw (now (raw .entry)) (length (now (text .entry))) (length (now (cues .entry))) (length (now (regions .entry))) (length (now (styles .entry)))) (regionRows (lists (plainText (now (raw .entry))) .regions)) (now (regions .entry)) ⌝ }
     ensures styles { λ _. ⌜ now (styles .exit) ≡ afterReading (readingRaw (now (raw .entry)) (length (now (text .entry))) (length (now (cues .entry))) (length (now (regions .entry))) (length (now (styles .entry)))) (styleRows (lists (plainText (now (raw .entry))) .styles)) (now (styles .entry)) ⌝ }
 {

@@ -29,7 +29,7 @@ use Rattle.writable.specs.Faults.{testNumber}
 use Rattle.writable.proofs.FaultLaws.{none-fails, number-is}
 use Rattle.blocks.specs.Collecting.{lineEnds}
 use Rattle.places.specs.Places.{OwnLines}
-use Rattle.places.proofs.PlaceLaws.{ends-next}
+use Rattle.blocks.proofs.LineLaws.{ends-next}
 use Rattle.places.proofs.FindLaws.{ends-split}
 use Rattle.replace.specs.NewCue.{gapAnswer, testedAnswer, countedAnswer, Outcome}
 

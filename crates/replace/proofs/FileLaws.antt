@@ -30,7 +30,8 @@ use Rattle.setting_forms.specs.Settings.{asked, namedRegion, settingsForm}
 use Rattle.forms.specs.Forms.{timingForm, cueForm}
 use Rattle.blocks.specs.Collecting.{lineEnds}
 use Rattle.places.specs.Places.{OwnLines}
-use Rattle.places.proofs.PlaceLaws.{ends-more, end-from}
+use Rattle.blocks.proofs.LineLaws.{ends-more}
+use Rattle.places.proofs.PlaceLaws.{end-from}
 use Rattle.replace.specs.NewCue.{lentForm, inPlace, Outcome}
 
 pub front-part : (s : List ℕ) (n : ℕ) → bytesAt s 0 n ≡ take n s

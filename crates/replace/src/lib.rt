@@ -62,8 +62,8 @@ fn replace_own(
     requires { ⌜ (now s ≡ plainText (now raw)) × (OwnLines (now s) number (own .from) (own .to)) × (newCueFails (now text) row (regionNames (now s)) ≡ none) ⌝ }
     ensures { λ r. ⌜ Outcome (newFile (now (raw .entry)) number (now (text .entry)) row) (now (out .entry)) (fileAnswer (newFile (now (raw .entry)) number (now (text .entry)) row) (length (now (out .entry)))) r (now (out .exit)) ⌝ }
 {
-    let first = lines::line_ends(part(s, 0, own.from));
-    let more = lines::line_ends(part(s, own.from, own.to));
+    let first = blocks::line_ends(part(s, 0, own.from));
+    let more = blocks::line_ends(part(s, own.from, own.to));
     let start = lines::raw_start(raw, 0, first);
     let end = lines::raw_end(raw, start, more);
     let mut nothing = [0u8; 1];

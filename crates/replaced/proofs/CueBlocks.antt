@@ -13,41 +13,35 @@ use Rattle.format.specs.Texts.{startsWith, isEmpty}
 use Rattle.format.specs.Lines.{splitAt, split, onFirst, before}
 use Rattle.format.specs.Blocks.{Line, hasSignature, linesAt, between, header, inside, stops, collected, blocksFrom}
 use Rattle.format.specs.Blocks.{afterSignature, blocks, bytesOf}
-use Rattle.format.specs.Lists.{Cue, Item, nothing, cue, style, region, meaning, isCue, itemsFrom, items, Lists, into, listed, lists, itemOver, anyOver}
+use Rattle.format.specs.Lists.{Cue, Item, nothing, cue, style, region, meaning, isCue, itemsFrom, items, into, listed, lists, itemOver, anyOver}
 use Rattle.format.specs.Contents.{CueContents, RegionContents, cueContents, contents}
 use Rattle.format.specs.Written.{writtenTiming, linesOf, cueLines}
-use Rattle.format.specs.Replacing.{blockOfCue, cueBlocksFrom, cueBlocks, firstNumber, firstLine, lineBefore, withCue}
+use Rattle.format.specs.LineNumbers.{blockOfCue, cueBlocksFrom, cueBlocks, firstNumber}
+use Rattle.format.specs.Replacing.{firstLine, lineBefore, withCue}
 use Rattle.laws.proofs.Tests.{and-left, or-first, or-second, by-test}
 use Rattle.laws.proofs.Lines.{Split, splits}
-use Rattle.laws.proofs.Standing.{bytes-append, bytes-lines}
+use Rattle.laws.proofs.Standing.{bytes-append, bytes-lines, length-bytes}
 use Rattle.laws.proofs.Blocks.{stateAfter}
 use Rattle.laws.proofs.Lists.{succeeded, items-append}
+use Rattle.laws.proofs.LineNumbers.{cues-into}
 use Rattle.roundtrip.proofs.Cues.{CueWritable, timing-arrow}
 use Rattle.roundtrip.proofs.Files.{cue-read, ids-contents, cue-blocks}
 use Rattle.replaced.proofs.Places.{contents-placed, over-placed}
 use Rattle.replaced.proofs.OneBlock.{Stop, Begun, begun, stops-timed, blocks-with, gap-before, timed-once, written-begins}
 
 -- an item that is a cue
-record IsCue (i : Item) : Type 0 where
-  values : Cue
-  over : Bool
-  is : i ≡ cue values over
+pub record IsCue (i : Item) : Type 0 where
+  pub values : Cue
+  pub over : Bool
+  pub is : i ≡ cue values over
 
--- a block gives a cue and is the block of one, or does neither
-module _ (b : List Line) where
-  one-cue : (i : Item) (k : ℕ) → k < length (blockOfCue i b) → (k ≡ 0) × IsCue i
-  unfolding blockOfCue isCue
-  one-cue nothing k h = absurd (omega arith)
-  one-cue (cue c over) k h = (omega arith, record { values = c; over = over; is = refl })
-  one-cue (style text) k h = absurd (omega arith)
-  one-cue (region r over) k h = absurd (omega arith)
-
-  cues-into : (i : Item) (l : Lists) → length (into i l .cues) ≡ length (blockOfCue i b) + length (l .cues)
-  unfolding blockOfCue isCue into
-  cues-into nothing l = omega arith
-  cues-into (cue c over) l = omega arith
-  cues-into (style text) l = omega arith
-  cues-into (region r over) l = omega arith
+-- a block is the block of a cue or of none
+one-cue : (b : List Line) (i : Item) (k : ℕ) → k < length (blockOfCue i b) → (k ≡ 0) × IsCue i
+unfolding blockOfCue isCue
+one-cue b nothing k h = absurd (omega arith)
+one-cue b (cue c over) k h = (omega arith, record { values = c; over = over; is = refl })
+one-cue b (style text) k h = absurd (omega arith)
+one-cue b (region r over) k h = absurd (omega arith)
 
 -- the block that gives the k-th cue, among all blocks
 record CueAt (seen : Bool) (bs : List (List Line)) (k : ℕ) : Type 0 where
@@ -152,28 +146,23 @@ number-at n p [] (x ∷ xs) l ys e = cc
 number-at n p (k ∷ ls) [] l ys e = let m : l .number ≡ n = cc in omega arith
 number-at n p (k ∷ ls) (x ∷ xs) l ys e = omega (arith, number-at (suc n) (p + suc (length k)) ls xs l ys (cc))
 
-pub length-bytes : (ls : List Line) → length (bytesOf ls) ≡ length ls
-unfolding bytesOf
-length-bytes [] = refl
-length-bytes (l ∷ ls) = ap suc (length-bytes ls)
-
 -- the lines around the block of a cue: the signature's line, those before the block, the block's own and those after it; and the blocks
 -- before and after it
-record Around (s : List ℕ) (number : ℕ) : Type 0 where
-  title : List ℕ
-  xs : List Line
-  first : Line
-  others : List Line
-  ys : List Line
-  lines : linesAt 0 0 (split s) ≡ record { number = 0; place = 0; bytes = title } ∷ (xs ++ (first ∷ (others ++ ys)))
-  block : getD (cueBlocks s) number [] ≡ first ∷ others
-  counted : first .number ≡ suc (length xs)
-  begins : stops (stateAfter header xs) first ≡ true
-  full : isEmpty (first .bytes) ≡ false
-  ends : Stop (inside (first ∷ others)) ys
-  divides : blocks s ≡ blocksFrom header xs ++ (first ∷ others) ∷ blocksFrom between ys
-  count : length (listed (itemsFrom false (blocksFrom header xs)) .cues) ≡ number
-  gives : IsCue (meaning (succeeded false (blocksFrom header xs)) (first ∷ others))
+pub record Around (s : List ℕ) (number : ℕ) : Type 0 where
+  pub title : List ℕ
+  pub xs : List Line
+  pub first : Line
+  pub others : List Line
+  pub ys : List Line
+  pub lines : linesAt 0 0 (split s) ≡ record { number = 0; place = 0; bytes = title } ∷ (xs ++ (first ∷ (others ++ ys)))
+  pub block : getD (cueBlocks s) number [] ≡ first ∷ others
+  pub counted : first .number ≡ suc (length xs)
+  pub begins : stops (stateAfter header xs) first ≡ true
+  pub full : isEmpty (first .bytes) ≡ false
+  pub ends : Stop (inside (first ∷ others)) ys
+  pub divides : blocks s ≡ blocksFrom header xs ++ (first ∷ others) ∷ blocksFrom between ys
+  pub count : length (listed (itemsFrom false (blocksFrom header xs)) .cues) ≡ number
+  pub gives : IsCue (meaning (succeeded false (blocksFrom header xs)) (first ∷ others))
 
 around-of :
     (s : List ℕ) (number : ℕ) (t : Split s) (a : CueAt false (blocks s) number)
@@ -201,7 +190,7 @@ around-of s number t a g =
       gives = subst₂ (λ x b. IsCue (meaning (succeeded false x) b)) (sym (g .earlier)) (r .is) (a .gives);
     }
 
-around : (s : List ℕ) (number : ℕ) → number < length (lists s .cues) → Around s number
+pub around : (s : List ℕ) (number : ℕ) → number < length (lists s .cues) → Around s number
 unfolding lists items blocks linesAt afterSignature collected
 around s number h =
     let t = splits s in
@@ -225,7 +214,7 @@ module _ (s : List ℕ) (number : ℕ) (a : Around s number) where
   block-length = ap length (a .block)
 
   -- the text's lines: up to the block, the block's and those after it
-  abbrev front-lines : List (List ℕ)
+  abbrev pub front-lines : List (List ℕ)
   front-lines = a .title ∷ bytesOf (a .xs)
 
   abbrev own-lines : List (List ℕ)
@@ -239,12 +228,12 @@ module _ (s : List ℕ) (number : ℕ) (a : Around s number) where
       ∙ ap (λ r. a .title ∷ r)
       (bytes-append (a .xs) (a .first ∷ (a .others ++ a .ys)) ∙ ap (λ r. bytesOf (a .xs) ++ a .first .bytes ∷ r) (bytes-append (a .others) (a .ys)))
 
-  lines-before : take (firstLine s number) (split s) ≡ front-lines
+  pub lines-before : take (firstLine s number) (split s) ≡ front-lines
   lines-before =
       rw lines-around
       (take-at front-lines (own-lines ++ bytesOf (a .ys)) (firstLine s number) (omega (arith, first-line, length-bytes (a .xs))))
 
-  lines-after : drop (firstLine s number + length (getD (cueBlocks s) number [])) (split s) ≡ bytesOf (a .ys)
+  pub lines-after : drop (firstLine s number + length (getD (cueBlocks s) number [])) (split s) ≡ bytesOf (a .ys)
   lines-after =
       let n = length-append front-lines own-lines in
       let bytes = length-bytes (a .first ∷ a .others) in
@@ -286,7 +275,7 @@ pub record Reads (s t : List ℕ) (number : ℕ) (asked : CueContents) : Type 0 
   pub within : anyOver (items t) ≡ false
 
 module _ (s : List ℕ) (number : ℕ) (asked : CueContents) (a : Around s number) where
-  abbrev rs : List RegionContents
+  abbrev pub rs : List RegionContents
   rs = contents (lists s) .regions
 
   abbrev new : List Line
@@ -307,7 +296,7 @@ module _ (s : List ℕ) (number : ℕ) (asked : CueContents) (a : Around s numbe
       (rw (bytes-append (a .xs) (new ++ a .ys), bytes-append new (a .ys), bytes-lines 0 0 (cueLines rs asked)))
 
   -- the line before the block is empty where an identifier is to come
-  block-gap :
+  pub block-gap :
       hasSignature s ≡ true
       → not (isEmpty (asked .id)) && not (isEmpty (lineBefore s number)) ≡ false
       → isEmpty (asked .id) ≡ false
@@ -321,23 +310,33 @@ module _ (s : List ℕ) (number : ℕ) (asked : CueContents) (a : Around s numbe
       let empty : isEmpty (lineBefore s number) ≡ true = not-false (isEmpty (lineBefore s number)) (rw f at g) in
       gap-before header (a .title) (a .xs) rest (λ y. absurd (true≢false (sym y ∙ full))) (rw (n, around) at empty)
 
-  abbrev earlier : List (List Line)
+  abbrev pub earlier : List (List Line)
   earlier = blocksFrom header (a .xs)
 
   abbrev later : List (List Line)
   later = blocksFrom between (a .ys)
 
+  -- they divide as the old ones do, whatever numbers and places they have
+  pub blocks-around :
+      (n p : ℕ) (ys : List Line)
+      → CueWritable rs asked
+      → (isEmpty (asked .id) ≡ false → stateAfter header (a .xs) ≡ between)
+      → Stop (inside (a .first ∷ a .others)) ys
+      → blocksFrom header (a .xs ++ (linesAt n p (cueLines rs asked) ++ ys)) ≡ earlier ++ linesAt n p (cueLines rs asked) ∷ blocksFrom between ys
+  unfolding cueLines
+  blocks-around n p ys w gap ends =
+      blocks-with header (a .xs) n p (cueLines rs asked) ys (cue-blocks rs asked w .closed)
+      (written-begins (stateAfter header (a .xs)) (a .first) n p rs asked ys (a .begins) (a .full) gap)
+      (stops-timed (a .first ∷ a .others) (linesAt n p (cueLines rs asked)) ys
+      (timed-once n p (linesOf (asked .id)) (writtenTiming rs asked) (linesOf (asked .text)) (timing-arrow rs asked))
+      ends)
+
   placed-blocks :
       CueWritable rs asked
       → (isEmpty (asked .id) ≡ false → stateAfter header (a .xs) ≡ between)
       → afterSignature placed ≡ earlier ++ new ∷ later
-  unfolding afterSignature cueLines
-  placed-blocks w gap =
-      blocks-with header (a .xs) 0 0 (cueLines rs asked) (a .ys) (cue-blocks rs asked w .closed)
-      (written-begins (stateAfter header (a .xs)) (a .first) rs asked (a .ys) (a .begins) (a .full) gap)
-      (stops-timed (a .first ∷ a .others) new (a .ys)
-      (timed-once 0 0 (linesOf (asked .id)) (writtenTiming rs asked) (linesOf (asked .text)) (timing-arrow rs asked))
-      (a .ends))
+  unfolding afterSignature
+  placed-blocks w gap = blocks-around 0 0 (a .ys) w gap (a .ends)
 
   -- a text of these lines
   reads :

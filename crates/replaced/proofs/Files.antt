@@ -1,5 +1,5 @@
 -- Demand 3: where replacing is accepted, the new file has the old bytes around the cue's own, reads as the old lists with that one cue
--- replaced, and is refused by no number but 2 and 6.
+-- replaced, has the lines of the later cues moved, and is refused by no number but 2 and 6.
 use Prim.Native.Nat.{ℕ, zero, suc, _+_, _-_, _≤_, _<_}
 use mathlib.Core.Path.{_≡_, refl, sym, ap, _∙_}
 use mathlib.Core.Bool.{true, false, not}
@@ -16,12 +16,14 @@ use Rattle.format.specs.Blocks.{hasSignature}
 use Rattle.format.specs.Lists.{items, lists, anyOver}
 use Rattle.format.specs.Answers.{Answer, accepted, ifAccepted, fileAnswer, placed}
 use Rattle.format.specs.Contents.{cueOfEntry, CueContents, contents}
-use Rattle.format.specs.Replacing.{cueBlocks, firstLine, lastLine, ownStart, ownEnd, cueAsked, newCueFails, withRegion, regionNames, newForm, newFile, withCue, noGap, unlessTest, replacingIs, replacingText, replacing, replacedRoom, Replaced}
+use Rattle.format.specs.LineNumbers.{cueBlocks}
+use Rattle.format.specs.Replacing.{firstLine, lastLine, ownStart, ownEnd, cueAsked, newCueFails, withRegion, regionNames, newForm, newFile, withCue, noGap, unlessTest, replacingIs, replacingText, replacing, replacedRoom, Replaced}
 use Rattle.format.specs.declared.Replacing.{Replacing}
 use Rattle.format.specs.declared.Replacing.the-variants as Replacing
 use Rattle.laws.proofs.Answers.{after-test, after-answer, front, file-made, reads-again}
 use Rattle.replaced.proofs.RawLines.{lines-replaced, signature-first}
 use Rattle.replaced.proofs.CueBlocks.{cue-block-at, lines-read}
+use Rattle.replaced.proofs.Spans.{lines-moved}
 use Rattle.replaced.proofs.Asked.{asked-writable, form-plain, form-begins}
 
 -- a new cue that fails a test is refused
@@ -84,6 +86,8 @@ replaced raw number t w scratch out vs e =
     let lines = raws .lines ∙ ap (λ ls. take n (split s) ++ ls ++ drop (n + c) (split s)) (form .lines) in
     let read =
     lines-read s (plainText new) number (cueAsked t w (regionNames s)) (ok .signature) (ok .there) (ok .within) (asked-writable s t w (ok .writable)) (ok .gap) lines in
+    let moved =
+    lines-moved s (plainText new) number (cueAsked t w (regionNames s)) (ok .signature) (ok .there) (asked-writable s t w (ok .writable)) (ok .gap) lines in
     let others = append-assoc (take n (split s)) _ (drop (n + c) (split s)) in
     let first : getD (split (plainText new)) 0 [] ≡ getD (split s) 0 [] =
     ap (λ ls. getD ls 0 []) (lines ∙ others) ∙ first-kept n (split s) _ (block .after-first) (omega (arith, block .inside, block .some)) in
@@ -92,6 +96,7 @@ replaced raw number t w scratch out vs e =
       ends = raws .ends;
       bytes = refl;
       reads = read .same;
+      lines = rw (form .lines) moved;
       again = reads-again new (file-made new out vs (ok .made) .fits) (signature-first (plainText new) s first ∙ ok .signature) (read .within);
     }
 

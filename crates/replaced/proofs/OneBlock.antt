@@ -237,16 +237,24 @@ timed-once n p (k ∷ (m ∷ ks)) t ls a = refl
 
 -- a written cue begins where a block did, and with an identifier where collecting stands between two blocks
 pub written-begins :
-    (st : Collecting) (l : Line) (rs : List RegionContents) (c : CueContents) (ys : List Line)
+    (st : Collecting) (l : Line) (n p : ℕ) (rs : List RegionContents) (c : CueContents) (ys : List Line)
     → stops st l ≡ true
     → isEmpty (l .bytes) ≡ false
     → (isEmpty (c .id) ≡ false → st ≡ between)
-    → Stop st (linesAt 0 0 (cueLines rs c) ++ ys)
+    → Stop st (linesAt n p (cueLines rs c) ++ ys)
 unfolding cueLines linesOf linesAt
-written-begins st l rs c ys e f h =
+written-begins st l n p rs c ys e f h =
     by-test (isEmpty (c .id))
-    (λ y. rw y (stops-arrow st l (record { number = 0; place = 0; bytes = writtenTiming rs c }) f (timing-arrow rs c) e))
-    (λ n. rw (h n) (stop-between (linesAt 0 0 (cueLines rs c) ++ ys)))
+    (λ y. rw y (stops-arrow st l (record { number = n; place = p; bytes = writtenTiming rs c }) f (timing-arrow rs c) e))
+    (λ i. rw (h i) (stop-between (linesAt n p (cueLines rs c) ++ ys)))
+
+-- whether lines stop collecting is said by their bytes
+pub stop-anywhere : (st : Collecting) (n p m q : ℕ) (ls : List (List ℕ)) → Stop st (linesAt n p ls) → Stop st (linesAt m q ls)
+unfolding linesAt stops
+stop-anywhere st n p m q [] h = tt
+stop-anywhere between n p m q (l ∷ ls) h = h
+stop-anywhere header n p m q (l ∷ ls) h = h
+stop-anywhere (inside b) n p m q (l ∷ ls) h = h
 
 -- where lines are one block, collecting stands inside it after them
 inside-whole : (acc ls : List Line) → blocksFrom (inside acc) ls ≡ (acc ++ ls) ∷ [] → stateAfter (inside acc) ls ≡ inside (acc ++ ls)

@@ -11,64 +11,76 @@ use Rattle.format.specs.Lists.{itemsFrom, items, listed, lists, anyOver}
 use Rattle.format.specs.Contents.{contents}
 use Rattle.laws.proofs.Tests.{by-test}
 use Rattle.laws.proofs.Standing.{bytes-lines}
-use Rattle.laws.proofs.Contents.{bareLine, unplaced, contents-unplaced, over-unplaced}
+use Rattle.laws.proofs.Contents.{unplaced, contents-unplaced, over-unplaced}
 
--- where collecting stands with lines that have no numbers and places
-bareState : Collecting → Collecting
-bareState between = between
-bareState header = header
-bareState (inside ls) = inside (unplaced ls)
+-- lines with other numbers and places
+module _ (number place : Line → ℕ) where
+  abbrev pub movedLine : Line → Line
+  movedLine l = record { number = number l; place = place l; bytes = l .bytes }
 
-stops-bare : (st : Collecting) (l : Line) → stops (bareState st) (bareLine l) ≡ stops st l
-unfolding stops bareState canTime
-stops-bare between l = refl
-stops-bare header l = refl
-stops-bare (inside []) l = refl
-stops-bare (inside (a ∷ [])) l = refl
-stops-bare (inside (a ∷ (b ∷ ls))) l = refl
+  abbrev pub movedLines : List Line → List Line
+  movedLines ls = map movedLine ls
 
-begin-bare : (l : Line) → begin (bareLine l) ≡ bareState (begin l)
-unfolding begin bareState
-begin-bare l = by-test (isEmpty (l .bytes)) (λ y. rw y) (λ n. rw n)
+  -- where collecting stands with them
+  movedState : Collecting → Collecting
+  movedState between = between
+  movedState header = header
+  movedState (inside ls) = inside (movedLines ls)
 
-on-bare : (st : Collecting) (l : Line) → goOn (bareState st) (bareLine l) ≡ bareState (goOn st l)
-unfolding goOn bareState
-on-bare between l = begin-bare l
-on-bare header l = refl
-on-bare (inside ls) l = rw (map-append bareLine ls (l ∷ []))
+  stops-moved : (st : Collecting) (l : Line) → stops (movedState st) (movedLine l) ≡ stops st l
+  unfolding stops movedState canTime
+  stops-moved between l = refl
+  stops-moved header l = refl
+  stops-moved (inside []) l = refl
+  stops-moved (inside (a ∷ [])) l = refl
+  stops-moved (inside (a ∷ (b ∷ ls))) l = refl
 
-collected-bare : (st : Collecting) → collected (bareState st) ≡ map unplaced (collected st)
-unfolding collected bareState
-collected-bare between = refl
-collected-bare header = refl
-collected-bare (inside ls) = refl
+  begin-moved : (l : Line) → begin (movedLine l) ≡ movedState (begin l)
+  unfolding begin movedState
+  begin-moved l = by-test (isEmpty (l .bytes)) (λ y. rw y) (λ n. rw n)
 
-next-bare : (st : Collecting) (l : Line) → next (bareState st) (bareLine l) ≡ bareState (next st l)
-unfolding next
-next-bare st l =
-    by-test (stops st l)
-    (λ y. rw (stops-bare st l, y) (begin-bare l))
-    (λ n. rw (stops-bare st l, n) (on-bare st l))
+  on-moved : (st : Collecting) (l : Line) → goOn (movedState st) (movedLine l) ≡ movedState (goOn st l)
+  unfolding goOn movedState
+  on-moved between l = begin-moved l
+  on-moved header l = refl
+  on-moved (inside ls) l = rw (map-append movedLine ls (l ∷ []))
 
-ended-bare : (st : Collecting) (l : Line) → ended (bareState st) (bareLine l) ≡ map unplaced (ended st l)
-unfolding ended
-ended-bare st l =
-    by-test (stops st l)
-    (λ y. rw (stops-bare st l, y) (collected-bare st))
-    (λ n. rw (stops-bare st l, n))
+  collected-moved : (st : Collecting) → collected (movedState st) ≡ map movedLines (collected st)
+  unfolding collected movedState
+  collected-moved between = refl
+  collected-moved header = refl
+  collected-moved (inside ls) = refl
 
-blocks-bare : (st : Collecting) (ls : List Line) → blocksFrom (bareState st) (unplaced ls) ≡ map unplaced (blocksFrom st ls)
-unfolding blocksFrom
-blocks-bare st [] = collected-bare st
-blocks-bare st (l ∷ ls) =
-    rw (map-append unplaced (ended st l) (blocksFrom (next st l) ls), ended-bare st l, next-bare st l, blocks-bare (next st l) ls)
+  next-moved : (st : Collecting) (l : Line) → next (movedState st) (movedLine l) ≡ movedState (next st l)
+  unfolding next
+  next-moved st l =
+      by-test (stops st l)
+      (λ y. rw (stops-moved st l, y) (begin-moved l))
+      (λ n. rw (stops-moved st l, n) (on-moved st l))
 
-signature-bare : (ls : List Line) → afterSignature (unplaced ls) ≡ map unplaced (afterSignature ls)
-unfolding afterSignature bareState
-signature-bare [] = refl
-signature-bare (l ∷ ls) = blocks-bare header ls
+  ended-moved : (st : Collecting) (l : Line) → ended (movedState st) (movedLine l) ≡ map movedLines (ended st l)
+  unfolding ended
+  ended-moved st l =
+      by-test (stops st l)
+      (λ y. rw (stops-moved st l, y) (collected-moved st))
+      (λ n. rw (stops-moved st l, n))
 
-unplaced-same : (ks ls : List Line) → bytesOf ks ≡ bytesOf ls → unplaced ks ≡ unplaced ls
+  state-moved : (st : Collecting) (ls : List Line) → blocksFrom (movedState st) (movedLines ls) ≡ map movedLines (blocksFrom st ls)
+  unfolding blocksFrom
+  state-moved st [] = collected-moved st
+  state-moved st (l ∷ ls) =
+      rw (map-append movedLines (ended st l) (blocksFrom (next st l) ls), ended-moved st l, next-moved st l, state-moved (next st l) ls)
+
+  pub blocks-moved : (ls : List Line) → blocksFrom between (movedLines ls) ≡ map movedLines (blocksFrom between ls)
+  unfolding movedState
+  blocks-moved ls = state-moved between ls
+
+  signature-moved : (ls : List Line) → afterSignature (movedLines ls) ≡ map movedLines (afterSignature ls)
+  unfolding afterSignature movedState
+  signature-moved [] = refl
+  signature-moved (l ∷ ls) = state-moved header ls
+
+pub unplaced-same : (ks ls : List Line) → bytesOf ks ≡ bytesOf ls → unplaced ks ≡ unplaced ls
 unfolding bytesOf
 unplaced-same [] [] e = refl
 unplaced-same [] (l ∷ ls) e = cc
@@ -84,9 +96,9 @@ module _ (s : List ℕ) (ls : List Line) (e : bytesOf ls ≡ split s) where
   unfolding blocks
   blocks-placed =
       let own = linesAt 0 0 (split s) in
-      sym (signature-bare own)
+      sym (signature-moved (λ l. 0) (λ l. 0) own)
       ∙ ap afterSignature (unplaced-same own ls (bytes-lines 0 0 (split s) ∙ sym e))
-      ∙ signature-bare ls
+      ∙ signature-moved (λ l. 0) (λ l. 0) ls
 
   pub contents-placed : contents (lists s) ≡ contents (listed (itemsFrom false (afterSignature ls)))
   unfolding lists items

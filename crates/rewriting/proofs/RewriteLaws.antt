@@ -10,13 +10,13 @@ use lib.ListN.{length, take, length-map}
 use lib.Seq.{length-take-le}
 use borrow.Author.Tests.{ltb-false, le-ltb}
 use Rattle.laws.proofs.Answers.{after-test, front}
-use Rattle.laws.proofs.Rows.{rows-say}
+use Rattle.laws.proofs.Rows.{rows-say, stored-length}
 use Rattle.format.specs.Answers.{Answer, accepted, refused, ifAccepted, andThen, placed}
 use Rattle.format.specs.Limits.{maxFile, maxText}
 use Rattle.format.specs.Plain.{plainText}
 use Rattle.format.specs.Blocks.{hasSignature}
 use Rattle.format.specs.Lists.{items, lists, anyOver}
-use Rattle.format.specs.Rows.{cueRows, regionRows, styleRows}
+use Rattle.format.specs.Rows.{regionRows, styleRows, storedCues}
 use Rattle.format.specs.Converting.{converting}
 use Rattle.format.specs.Reading.{counts, reading, readingRaw, fileReading, afterReading}
 use Rattle.format.specs.Contents.{storedContents}
@@ -103,18 +103,18 @@ first-length n k l e = sym (length-take-le k l (omega arith))
 
 -- after lists' counts each table starts with its list's rows
 pub record Starts (s : List ℕ) (c r t : ℕ) (us ws zs : List (List ℕ)) : Type 0 where
-  pub cues : take c us ≡ cueRows (lists s .regions) (lists s .cues)
+  pub cues : take c us ≡ storedCues s
   pub regions : take r ws ≡ regionRows (lists s .regions)
   pub styles : take t zs ≡ styleRows (lists s .styles)
 
 pub starts :
     (s : List ℕ) (cues₀ regions₀ styles₀ : List (List ℕ)) {c r t : ℕ} {cues regions styles : List (List ℕ)}
     → accepted (c ∷ r ∷ t ∷ []) ≡ reading s (length cues₀) (length regions₀) (length styles₀)
-    → cues ≡ afterReading (accepted (c ∷ r ∷ t ∷ [])) (cueRows (lists s .regions) (lists s .cues)) cues₀
+    → cues ≡ afterReading (accepted (c ∷ r ∷ t ∷ [])) (storedCues s) cues₀
     → regions ≡ afterReading (accepted (c ∷ r ∷ t ∷ [])) (regionRows (lists s .regions)) regions₀
     → styles ≡ afterReading (accepted (c ∷ r ∷ t ∷ [])) (styleRows (lists s .styles)) styles₀
     → Starts s c r t cues regions styles
-unfolding counts cueRows regionRows styleRows afterReading ifAccepted
+unfolding counts regionRows styleRows afterReading ifAccepted
 starts s cues₀ regions₀ styles₀ {c} {r} {t} {cues} {regions} {styles} a hc hr ht =
     let l = lists s in
     let n = counted s (length cues₀) (length regions₀) (length styles₀) _ a in
@@ -122,7 +122,7 @@ starts s cues₀ regions₀ styles₀ {c} {r} {t} {cues} {regions} {styles} a hc
     let nr : r ≡ length (l .regions) = cc n in
     let nt : t ≡ length (l .styles) = cc n in
     record {
-      cues = front _ cues₀ cues c hc (nc ∙ sym (length-map (l .cues) _));
+      cues = front _ cues₀ cues c hc (nc ∙ sym (stored-length s));
       regions = front _ regions₀ regions r hr (nr ∙ sym (length-map (l .regions) _));
       styles = front _ styles₀ styles t ht (nt ∙ sym (length-map (l .styles) _));
     }
@@ -131,7 +131,7 @@ starts s cues₀ regions₀ styles₀ {c} {r} {t} {cues} {regions} {styles} a hc
 pub file-is :
     (s : List ℕ) (cues regions styles : ℕ) (vs : List ℕ)
     → accepted vs ≡ reading s cues regions styles
-    → rewrittenFile s ≡ fileOf s (styleRows (lists s .styles)) (regionRows (lists s .regions)) (cueRows (lists s .regions) (lists s .cues))
+    → rewrittenFile s ≡ fileOf s (styleRows (lists s .styles)) (regionRows (lists s .regions)) (storedCues s)
 unfolding reading rewrittenFile fileOf storedContents
 file-is s cues regions styles vs e =
     let size = after-test (ltb maxText (length s)) 1 [] vs _ (sym e) in

@@ -9,7 +9,7 @@ ghost use mathlib.Core.Path.{_≡_};
 ghost use lib.ListN.{length, take};
 ghost use Rattle.format.specs.Plain.{plainText};
 ghost use Rattle.format.specs.Lists.{lists};
-ghost use Rattle.format.specs.Rows.{cueRows, regionRows, styleRows};
+ghost use Rattle.format.specs.Rows.{regionRows, styleRows, storedCues};
 ghost use Rattle.format.specs.Converting.{convertedRoom};
 ghost use Rattle.format.specs.Reading.{afterReading};
 ghost use Rattle.format.specs.Writing.{writingIs, writing, writtenRoom};
@@ -64,7 +64,7 @@ pub fn rewrite(
 ) -> Rewriting
     ensures answer { λ r. ⌜ rewritingIs r ≡ rewriting (now (raw .entry)) (lengths (now (text .entry)) (now (cues .entry)) (now (regions .entry)) (now (styles .entry)) (now (out .entry))) ⌝ }
     ensures text { λ _. ⌜ now (text .exit) ≡ convertedRoom (now (raw .entry)) (now (text .entry)) ⌝ }
-    ensures cues { λ _. ⌜ now (cues .exit) ≡ afterReading (readingIn (now (raw .entry)) (lengths (now (text .entry)) (now (cues .entry)) (now (regions .entry)) (now (styles .entry)) (now (out .entry)))) (cueRows (lists (plainText (now (raw .entry))) .regions) (lists (plainText (now (raw .entry))) .cues)) (now (cues .entry)) ⌝ }
+    ensures cues { λ _. ⌜ now (cues .exit) ≡ afterReading (readingIn (now (raw .entry)) (lengths (now (text .entry)) (now (cues .entry)) (now (regions .entry)) (now (styles .entry)) (now (out .entry)))) (storedCues (plainText (now (raw .entry)))) (now (cues .entry)) ⌝ }
     ensures regions { λ _. ⌜ now (regions .exit) ≡ afterReading (readingIn (now (raw .entry)) (lengths (now (text .entry)) (now (cues .entry)) (now (regions .entry)) (now (styles .entry)) (now (out .entry)))) (regionRows (lists (plainText (now (raw .entry))) .regions)) (now (regions .entry)) ⌝ }
     ensures styles { λ _. ⌜ now (styles .exit) ≡ afterReading (readingIn (now (raw .entry)) (lengths (now (text .entry)) (now (cues .entry)) (now (regions .entry)) (now (styles .entry)) (now (out .entry)))) (styleRows (lists (plainText (now (raw .entry))) .styles)) (now (styles .entry)) ⌝ }
     ensures out { λ _. ⌜ now (out .exit) ≡ rewrittenRoom (now (raw .entry)) (lengths (now (text .entry)) (now (cues .entry)) (now (regions .entry)) (now (styles .entry)) (now (out .entry))) (now (out .entry)) ⌝ }

@@ -266,7 +266,7 @@ unfolding blocksFrom ended next stops collected begin
 gap l ls e = rw e
 
 -- the same for lines
-lines-append :
+pub lines-append :
     (k p : ℕ) (a b : List (List ℕ))
     → linesAt k p (a ++ b) ≡ linesAt k p a ++ linesAt (k + length a) (p + length (lineEnded a)) b
 unfolding linesAt lineEnded

@@ -8,6 +8,7 @@ use borrow.Author.Tests.{le-ltb, lt-ltb}
 use Rattle.format.specs.Rows.{word, cueCodesNamed, cueWords, directionWord, lineWord, lineNumberWord, snapWord, lineAlignWord, positionWord, positionNumberWord, positionAlignWord, alignWord, regionWord}
 use Rattle.laws.proofs.Tests.{and-false}
 use Rattle.format.specs.declared.rows.CueEntry.{CueEntry}
+use Rattle.format.specs.declared.rows.LineSpan.{LineSpan}
 
 pub and-none : (t : Bool) → t && false ≡ false
 and-none t = and-false t false refl
@@ -61,7 +62,7 @@ last-code w a b c d e f =
 
 -- a row whose coded words are those of the entry's choices
 pub row-is :
-    (e : CueEntry) {d l n s la p m pa a i : ℕ}
+    (e : CueEntry) (lines : LineSpan) {d l n s la p m pa a i : ℕ}
     → d ≡ directionWord (e .settings .vertical)
     → l ≡ lineWord (e .settings .line .line)
     → n ≡ lineNumberWord (e .settings .line .line)
@@ -89,6 +90,8 @@ pub row-is :
     ∷ e .settings .size
     ∷ a
     ∷ i
+    ∷ lines .first
+    ∷ lines .count
     ∷ []
-    ≡ cueWords e
-row-is e ed el en es ela ep em epa ea ei = rw (ed, el, en, es, ela, ep, em, epa, ea, ei)
+    ≡ cueWords e lines
+row-is e lines ed el en es ela ep em epa ea ei = rw (ed, el, en, es, ela, ep, em, epa, ea, ei)

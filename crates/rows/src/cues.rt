@@ -7,7 +7,7 @@ use format::settings::LinePlace;
 use format::settings::PositionPlace;
 use format::settings::Span;
 ghost use mathlib.Core.Path.{_≡_};
-ghost use Rattle.format.specs.Rows.{cueEntry, cueCodesNamed};
+ghost use Rattle.format.specs.Rows.{cueEntry, cueSpan, cueCodesNamed};
 
 pub fn id(row: CueRow) -> Span
     ensures { λ r. ⌜ r ≡ cueEntry row .id ⌝ }
@@ -82,6 +82,16 @@ pub fn region(row: CueRow) -> RegionIndex
     ensures { λ r. ⌜ r ≡ cueEntry row .region ⌝ }
 {
     choices::region(row[CUE_REGION])
+}
+
+// The cue's lines in its file.
+pub fn lines(row: CueRow) -> LineSpan
+    ensures { λ r. ⌜ r ≡ cueSpan row ⌝ }
+{
+    LineSpan {
+        first: row[CUE_FIRST_LINE],
+        count: row[CUE_LINES],
+    }
 }
 
 // Does each code of the row name a choice.

@@ -3,7 +3,7 @@ use format::rows::*;
 ghost use mathlib.Core.Path.{_≡_};
 ghost use Rattle.format.specs.Rows.{cueEntry, newCueEntry, cueCodesNamed};
 
-// The row of a new cue as the row of a cue without a region.
+// The row of a new cue as the row of a cue without a region and without lines.
 pub fn cue_of_new(row: NewCueRow) -> CueRow
     ensures { λ r. ⌜ (cueEntry r ≡ newCueEntry row) × (cueCodesNamed r ≡ cueCodesNamed row) ⌝ }
 {
@@ -24,6 +24,8 @@ pub fn cue_of_new(row: NewCueRow) -> CueRow
         row[CUE_POSITION_ALIGN],
         row[CUE_SIZE],
         row[CUE_ALIGN],
+        0,
+        0,
         0,
     ]
 }

@@ -13,9 +13,9 @@ use format::settings::Span;
 ghost use mathlib.Core.Path.{_≡_};
 ghost use Rattle.format.specs.Rows.{cueWords, newCueWords, regionWords, styleWords, newCueEntry, newCueName};
 
-// The row of a cue.
-pub fn cue_row(entry: CueEntry) -> CueRow
-    ensures { λ r. ⌜ r ≡ cueWords entry ⌝ }
+// The row of a cue that has these lines.
+pub fn cue_row(entry: CueEntry, lines: LineSpan) -> CueRow
+    ensures { λ r. ⌜ r ≡ cueWords entry lines ⌝ }
 {
     let settings = entry.settings;
     let vertical = settings.vertical;
@@ -45,6 +45,8 @@ pub fn cue_row(entry: CueEntry) -> CueRow
         settings.size,
         words::align(across),
         words::region(region),
+        lines.first,
+        lines.count,
     ]
 }
 
@@ -74,11 +76,11 @@ pub fn style_row(text: Span) -> StyleRow
     [text.from as u64, text.to as u64]
 }
 
-// The row of a new cue that is lent for a replacement, with the name of its region.
+// The row of a new cue that is lent for a replacement, with the name of its region. Nobody looks at its last two words.
 pub fn new_cue_row(entry: CueEntry, name: Span) -> NewCueRow
     ensures { λ r. ⌜ r ≡ newCueWords entry name ⌝ }
 {
-    let row = cue_row(entry);
+    let row = cue_row(entry, LineSpan::NONE);
     [
         row[CUE_ID_FROM],
         row[CUE_ID_TO],
@@ -98,6 +100,8 @@ pub fn new_cue_row(entry: CueEntry, name: Span) -> NewCueRow
         row[CUE_ALIGN],
         name.from as u64,
         name.to as u64,
+        0,
+        0,
     ]
 }
 

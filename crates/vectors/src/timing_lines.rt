@@ -125,17 +125,18 @@ fn print_cue_row(row: CueRow) {
     );
 }
 
-// The row of a cue that has these settings, and no region, so that each choice is printed by its code.
+// The row of a cue that has these settings, no region and no lines, so that each choice is printed by its code.
 fn row_of(settings: Settings) -> CueRow {
     let none = Span { from: 0, to: 0 };
-    rows::cue_row(CueEntry {
+    let entry = CueEntry {
         id: none,
         start: 0,
         end: 0,
         text: none,
         settings,
         region: RegionIndex::None,
-    })
+    };
+    rows::cue_row(entry, LineSpan::NONE)
 }
 
 fn print_settings(text: &[u8], settings: Settings, region: Span) {

@@ -83,6 +83,22 @@ fn from_c() {
     );
 }
 
+/// The widths that C takes from the header are those of the rows here: nothing else would tell, since a caller in C lends what the header says.
+#[test]
+fn widths_in_c() {
+    let header = std::fs::read_to_string(above("include/spatzenherd.h")).expect("include/spatzenherd.h");
+    for (name, words) in [
+        ("SPATZ_CUE_WORDS", lent::CUE_WORDS),
+        ("SPATZ_NEW_CUE_WORDS", lent::NEW_CUE_WORDS),
+        ("SPATZ_REGION_WORDS", lent::REGION_WORDS),
+        ("SPATZ_STYLE_WORDS", lent::STYLE_WORDS),
+        ("SPATZ_NODE_WORDS", lent::NODE_WORDS),
+    ] {
+        let value = header.split(&format!("{name} = ")).nth(1).and_then(|rest| rest.split(|c: char| !c.is_ascii_digit()).next());
+        assert_eq!(value, Some(words.to_string().as_str()), "{name}");
+    }
+}
+
 /// The example of docs/LIBRARY.md: the indented lines after its heading, from `import` on.
 fn python_example() -> String {
     let page = std::fs::read_to_string(above("docs/LIBRARY.md")).expect("docs/LIBRARY.md");

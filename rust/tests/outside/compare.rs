@@ -1,7 +1,8 @@
 //! Every function over lent memory against the papers, on generated files and damaged public files: the number, the values, and all of the
 //! memory lent, with rooms and tables of the exact length, one short, empty and longer.
-use crate::generate::{any_regions, cue_text, damage, damage_row, file, long_file, named_file, new_cue};
+use crate::generate::{any_lines, any_regions, cue_text, damage, damage_row, file, long_file, named_file, new_cue};
 use crate::lent::Lent;
+use crate::line_numbers::{lines, moved, written_lines};
 use crate::papers::{self, CueRow, Lists, Refusal, RegionRow, StyleRow};
 use crate::random::Random;
 use spatzenherd::lent;
@@ -233,6 +234,13 @@ impl Case {
         for out in self.lengths(out) {
             self.write(text, &styles, &regions, &cues, out);
         }
+        for row in &mut cues {
+            row[17..].copy_from_slice(&any_lines(&mut self.random));
+        }
+        self.write(text, &styles, &regions, &cues, out);
+        for number in [0, cues.len() / 2] {
+            self.parts(text, &cues, number);
+        }
         for _ in 0..3 {
             match self.random.below(4) {
                 0 if !regions.is_empty() => {
@@ -258,7 +266,8 @@ impl Case {
     fn replacing(&mut self, raw: &[u8], text_length: usize, cues: usize) {
         let (row, text) = new_cue(&mut self.random);
         let number = if self.random.once_in(12) { self.random.word() as usize } else { self.random.below(cues + 1) };
-        let out = papers::replace(raw, number, &row, &text, text_length, usize::MAX).answer.map_or(raw.len(), |file| file.len());
+        let expected = papers::replace(raw, number, &row, &text, text_length, usize::MAX).answer;
+        let out = expected.as_ref().map_or(raw.len(), |file| file.len());
         for rooms in [
             [text_length, out],
             [text_length, out.saturating_sub(1)],
@@ -267,6 +276,11 @@ impl Case {
             [0, 0],
         ] {
             self.replace(raw, number, &row, &text, rooms);
+        }
+        if let Ok(new) = expected {
+            let part = |from: usize| &text[row[from] as usize..row[from + 1] as usize];
+            let written = written_lines(part(0), part(4));
+            self.check(&format!("replace {number}: lines"), lines(&new) == moved(&lines(raw), number, written), raw);
         }
     }
 }

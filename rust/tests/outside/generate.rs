@@ -407,6 +407,16 @@ pub fn any_regions(random: &mut Random, length: usize) -> Vec<papers::RegionRow>
     rows
 }
 
+/// The lines of a cue that is lent: any two numbers, since nobody looks at them.
+pub fn any_lines(random: &mut Random) -> [u64; 2] {
+    match random.below(4) {
+        0 => [0, 0],
+        1 => [u64::MAX, u64::MAX],
+        2 => [random.below(20) as u64, random.below(6) as u64],
+        _ => [random.word(), random.word()],
+    }
+}
+
 /// A new cue: a row of words over a text of its own. Most of them are writable.
 pub fn new_cue(random: &mut Random) -> (Vec<u64>, Vec<u8>) {
     let mut text = b"xyz".to_vec();
@@ -415,7 +425,7 @@ pub fn new_cue(random: &mut Random) -> (Vec<u64>, Vec<u8>) {
         text.extend_from_slice(string.as_bytes());
         [from, text.len() as u64]
     };
-    let mut row = vec![0; 18];
+    let mut row = vec![0; papers::NEW_CUE_WORDS];
     row[0..2].copy_from_slice(&part(random.of(&["", "", "id", "7", "a b", "\u{8A9E}", "STYLE", "a-->", "NOTE x"])));
     row[2] = random.below(100_000) as u64;
     row[3] = row[2] + random.below(5_000) as u64;
@@ -435,11 +445,14 @@ pub fn new_cue(random: &mut Random) -> (Vec<u64>, Vec<u8>) {
     row[14] = if random.once_in(3) { percentage(random) } else { 100_000_000 };
     row[15] = if random.once_in(3) { random.below(5) as u64 } else { 1 };
     row[16..18].copy_from_slice(&part(random.of(&["", "", "", "low", "top", "r", "fred", "none"])));
+    row[18..].copy_from_slice(&any_lines(random));
     if random.once_in(4) {
         damage_row(random, &mut row);
     }
     if random.once_in(40) {
-        row.resize(random.below(20), 0);
+        // Another count of words: among them those of a cue's row and of a new cue's before request Q-8, and one too many.
+        let counts = [17, 18, 19, 21, 22, random.below(papers::NEW_CUE_WORDS)];
+        row.resize(counts[random.below(counts.len())], 0);
     }
     if random.once_in(20) {
         damage(random, &mut text);

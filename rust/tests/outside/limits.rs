@@ -1,7 +1,7 @@
 //! The limits themselves, on both sides: the lengths of files and texts, read and made, and the numbers.
 use crate::compare::Case;
 use crate::papers;
-use spatzenherd::{replace, write, Cue, File, NewCue, Refusal, Tree, MAX_FILE, MAX_TEXT};
+use spatzenherd::{replace, write, Cue, File, LineSpan, NewCue, Refusal, Tree, MAX_FILE, MAX_TEXT};
 
 /// A start and then one byte over and over, up to a length.
 fn filled(start: &[u8], byte: u8, length: usize) -> Vec<u8> {
@@ -36,6 +36,22 @@ fn texts() {
     // Not plain, and too long: 1 comes first.
     case.read(&filled(&longest, b'\r', MAX_TEXT + 1), [1, 0, 0]);
     case.first_not_plain(&filled(&longest, b'\r', MAX_TEXT + 1));
+}
+
+/// A cue on the last line of the longest file and of the longest text, after nothing but line ends; and a cue of a million lines.
+#[test]
+fn lines() {
+    let (start, timing, mut case) = (b"WEBVTT", b"00:00.000 --> 00:01.000", Case::new(4));
+    for (byte, length) in [(b'\n', MAX_FILE), (b'\r', MAX_FILE), (b'\n', MAX_TEXT)] {
+        let mut last = filled(start, byte, length - timing.len());
+        last.extend_from_slice(timing);
+        let found = if length == MAX_FILE { File::read(&last) } else { File::of_text(String::from_utf8(last).expect("it is text")) };
+        let lines = found.expect("it is read").cue(0).expect("a cue").lines;
+        assert_eq!(lines, LineSpan { first: (length - start.len() - timing.len() + 1) as u64, count: 1 });
+    }
+    let most = [b"WEBVTT\n\n".as_slice(), timing, &b"\nx".repeat(1_000_000)].concat();
+    case.read(&most, [1, 0, 0]);
+    assert_eq!(File::read(&most).expect("it is read").cue(0).expect("a cue").lines, LineSpan { first: 3, count: 1_000_001 });
 }
 
 #[test]

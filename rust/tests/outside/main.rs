@@ -10,6 +10,7 @@ mod finding;
 mod generate;
 mod lent;
 mod limits;
+mod line_numbers;
 mod owned;
 mod papers;
 mod random;

@@ -1,11 +1,11 @@
 //! The safe functions against the papers: what they own and hand out says what the rows of the papers say, refused or not.
 use crate::compare::{first_seed, number_from};
-use crate::generate::{damage, file};
+use crate::generate::{any_lines, damage, file};
 use crate::papers::{self, CueRow, Lists};
 use crate::random::Random;
 use spatzenherd::{
-    replace, rewrite, write, Align, Cue, File, Kind, Line, LineAlign, List, NewCue, PositionAlign, Refusal, Region, Scroll, Settings, Tree,
-    Vertical,
+    replace, rewrite, write, Align, Cue, File, Kind, Line, LineAlign, LineSpan, List, NewCue, PositionAlign, Refusal, Region, Scroll,
+    Settings, Tree, Vertical,
 };
 
 fn same<T>(seed: u64, found: &Result<T, Refusal>, expected: &Result<impl Sized, papers::Refusal>) {
@@ -41,7 +41,8 @@ fn compare_lists(seed: u64, text: &str, file: &File, lists: &Lists) {
     for (found, row) in file.cues().zip(&lists.cues) {
         let region = if row[16] == 0 { None } else { Some(row[16] as usize - 1) };
         let (identifier, text) = (part(row[0], row[1]), part(row[4], row[5]));
-        assert_eq!(found, Cue { identifier, start: row[2], end: row[3], text, settings: settings(row), region }, "seed {seed}");
+        let lines = LineSpan { first: row[17], count: row[18] };
+        assert_eq!(found, Cue { identifier, start: row[2], end: row[3], text, settings: settings(row), region, lines }, "seed {seed}");
     }
     for (found, row) in file.regions().zip(&lists.regions) {
         let area = found.area;
@@ -61,13 +62,19 @@ fn compare_lists(seed: u64, text: &str, file: &File, lists: &Lists) {
     }
 }
 
-/// Lists that own their strings, written: as the rows are.
-fn compare_written(seed: u64, text: &str, file: &File, lists: &Lists) {
+/// Lists that own their strings, written: as the rows are, whatever lines their cues have.
+fn compare_written(seed: u64, random: &mut Random, text: &str, file: &File, lists: &Lists) {
     let expected = papers::write(text.as_bytes(), &lists.styles, &lists.regions, &lists.cues, usize::MAX);
     let styles: Vec<String> = file.styles().map(str::to_string).collect();
     let regions: Vec<Region> = file.regions().map(|region| region.to_owned()).collect();
     let cues: Vec<Cue> = file.cues().map(|cue| cue.to_owned()).collect();
-    for found in [file.write(), write(&styles, &regions, &cues)] {
+    assert!(cues.iter().map(|cue| cue.lines).eq(file.cues().map(|cue| cue.lines)), "seed {seed}");
+    let mut any_lines = || {
+        let [first, count] = any_lines(random);
+        LineSpan { first, count }
+    };
+    let elsewhere: Vec<Cue> = cues.iter().map(|cue| Cue { lines: any_lines(), ..cue.clone() }).collect();
+    for found in [file.write(), write(&styles, &regions, &cues), write(&styles, &regions, &elsewhere)] {
         same(seed, &found, &expected);
         assert_eq!(found.ok(), expected.as_ref().ok().cloned(), "seed {seed}");
     }
@@ -112,6 +119,7 @@ fn compare_replaced(seed: u64, random: &mut Random, raw: &[u8], cues: usize) {
     let end = joined.len() as u64;
     let mut row = vec![0, identifier, cue.start, cue.end, identifier, identifier + text];
     row.extend_from_slice(&[0, 2, 2_500_000, 0, 0, 0, 0, 0, cue.settings.size, 1, identifier + text, end]);
+    row.extend_from_slice(&any_lines(random));
     let number = random.below(cues + 1);
     let expected = papers::replace(raw, number, &row, joined.as_bytes(), usize::MAX, usize::MAX).answer;
     let found = replace(raw, number, &cue);
@@ -141,7 +149,7 @@ fn owned_results() {
         assert_eq!(rewrite(&raw).ok(), whole.ok(), "seed {seed}");
         let (Ok(found), Ok(lists)) = (found, expected) else { continue };
         compare_lists(seed, &text, &found, &lists);
-        compare_written(seed, &text, &found, &lists);
+        compare_written(seed, &mut random, &text, &found, &lists);
         for number in 0..found.cues().len() {
             compare_tree(seed, found.cue(number).expect("a cue").text);
             assert_eq!(found.tree(number), Tree::read(found.cue(number).expect("a cue").text));

@@ -10,7 +10,7 @@ use Rattle.c_api.proofs.lent_row.Tie as tie
 
 returns : tie.Need-returns
 unfolding lentWords
-returns c = rw (ne-eqb (length (c .before .args .row .now)) 18 (c .if1 .taken)) refl
+returns c = rw (ne-eqb (length (c .before .args .row .now)) 20 (c .if1 .taken)) refl
 
 shared-slice-read-t5 : tie.Need-shared-slice-read-t5
 shared-slice-read-t5 c = search needs
@@ -66,12 +66,18 @@ shared-slice-read-t37 c = search needs
 shared-slice-read-t39 : tie.Need-shared-slice-read-t39
 shared-slice-read-t39 c = search needs
 
+shared-slice-read-t41 : tie.Need-shared-slice-read-t41
+shared-slice-read-t41 c = search needs
+
+shared-slice-read-t43 : tie.Need-shared-slice-read-t43
+shared-slice-read-t43 c = search needs
+
 returns-2 : tie.Need-returns-2
 unfolding lentWords
 returns-2 c =
-    let at = c .before .before .before .before .before .before .before .before .before .before .before .before .before .before .before .before .before .before in
+    let at = c .before .before .before .before .before .before .before .before .before .before .before .before .before .before .before .before .before .before .before .before in
     let w = at .before .args .row .now in
-    rw (eq-eqb (length w) 18 (at .if1 .left)) (sym (listed w (at .if1 .left)))
+    rw (eq-eqb (length w) 20 (at .if1 .left)) (sym (listed w (at .if1 .left)))
 
 pub lent-row-spec : {M : Type 1} → statement M
 lent-row-spec =
@@ -96,4 +102,6 @@ lent-row-spec =
     shared-slice-read-t35
     shared-slice-read-t37
     shared-slice-read-t39
+    shared-slice-read-t41
+    shared-slice-read-t43
     returns-2)

@@ -7,7 +7,7 @@ use lib.ListN.{getD, take}
 use borrow.Author.Tests.{eq-eqb, ne-eqb}
 use Rattle.format.specs.Bytes.{lf}
 use Rattle.blocks.specs.Collecting.{lineEnds}
-use Rattle.places.proofs.PlaceLaws.{ends-next}
+use Rattle.blocks.proofs.LineLaws.{ends-next}
 use Rattle.replace.proofs.CheckLaws.{some-before, first-gap, gap-is}
 use Rattle.replace.proofs.gap_before.Statement.{statement}
 use Rattle.replace.proofs.gap_before.Tie as tie

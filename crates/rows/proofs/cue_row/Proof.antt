@@ -39,6 +39,7 @@ returns c =
     let first = c .before .before .before .before .before .before .before .before .before in
     row-is
     (first .before .before .before .before .args .entry)
+    (first .before .before .before .before .args .lines)
     (first .direction .ensures)
     (c .before .before .before .before .before .before .before .before .line .ensures)
     (c .before .before .before .before .before .before .before .line-number .ensures)

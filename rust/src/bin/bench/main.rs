@@ -5,7 +5,7 @@
 //! take ten minutes, so it is measured only where it is asked for.
 mod samples;
 
-use spatzenherd::lent::{self, CueRow, RegionRow, StyleRow};
+use spatzenherd::lent::{self, CueRow, RegionRow, StyleRow, CUE_WORDS, NEW_CUE_WORDS, NODE_WORDS, REGION_WORDS, STYLE_WORDS};
 use spatzenherd::MAX_FILE;
 use std::hint::black_box;
 use std::time::Instant;
@@ -105,7 +105,7 @@ impl Read {
             values = [0; 8];
         }
         let [cues, regions, styles, ..] = values.map(|count| count as usize);
-        Read { text, cues: vec![[0; 17]; cues], regions: vec![[0; 9]; regions], styles: vec![[0; 2]; styles] }
+        Read { text, cues: vec![[0; CUE_WORDS]; cues], regions: vec![[0; REGION_WORDS]; regions], styles: vec![[0; STYLE_WORDS]; styles] }
     }
 
     fn read(&mut self) -> u64 {
@@ -142,7 +142,7 @@ fn heading(title: &str, columns: &[&str]) {
 /// What replacing the cue of a number by one like it answers, and its seconds.
 fn replacing(raw: &[u8], number: usize) -> (u64, f64) {
     let text = b"Replaced.";
-    let mut row = [0; 18];
+    let mut row = [0; NEW_CUE_WORDS];
     (row[2], row[3], row[5], row[14], row[15]) = (1000, 2000, text.len() as u64, 100_000_000, 1);
     let (mut scratch, mut out) = (vec![0; 3 * raw.len()], vec![0; raw.len() + 100]);
     let mut answer = 0;
@@ -194,7 +194,7 @@ fn episode(name: &str, raw: &[u8]) {
         (0, time) => time,
         (answer, _) => panic!("replacing cue {number} is refused by {answer}"),
     });
-    let mut nodes = vec![[0; 7]; 1000];
+    let mut nodes = vec![[0; NODE_WORDS]; 1000];
     let trees = seconds(|| {
         for cue in &file.cues {
             let text = &file.text[cue[4] as usize..cue[5] as usize];
@@ -242,7 +242,7 @@ fn worst_texts() {
     for (name, text) in samples::worst_texts() {
         let scanned = scanning(&text);
         let mut room = vec![0; text.len()];
-        let mut nodes = vec![[0; 7]; text.len() / 2 + 2];
+        let mut nodes = vec![[0; NODE_WORDS]; text.len() / 2 + 2];
         let tree = seconds(|| assert_eq!(lent::tree(&text, &mut room, &mut nodes, &mut [0; 8]), 0));
         row(name, text.len(), scanned, &[tree]);
     }

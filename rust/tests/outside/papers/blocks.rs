@@ -8,7 +8,7 @@ use super::settings::collect_timings_and_settings;
 /// A cue that was read, and its own lines: from its first line up to the end of its last line, that line's LF excluded.
 pub struct ReadCue {
     pub cue: Cue,
-    pub lines: Part,
+    pub own: Part,
 }
 
 /// The lists of a file, and whether a number was above its limit (refusal 5).
@@ -184,7 +184,7 @@ impl Parser<'_> {
         if let Some(mut cue) = cue {
             cue.text = joined(&buffer);
             let last_place = if buffer.is_empty() { timing_line_end } else { cue.text.to };
-            return Some(Block::Cue(ReadCue { cue, lines: Part { from: first_place, to: last_place } }));
+            return Some(Block::Cue(ReadCue { cue, own: Part { from: first_place, to: last_place } }));
         }
         // 13. Style text is kept unparsed.
         if style {

@@ -1,8 +1,9 @@
-//! A slow and simple reference implementation of WebVTT, written from document 01 and the papers that it names.
+//! A slow and simple reference implementation of WebVTT, written from documents 01 and 02 and the papers that they name.
 //! This file has the types of the interface, the limits of document 01 and the numbers of its refusals.
 
 mod blocks;
 mod cue_text;
+mod lines;
 mod model;
 mod names;
 mod numbers;
@@ -32,10 +33,12 @@ pub struct Refusal {
     pub values: Vec<u64>,
 }
 
-pub type CueRow = [u64; 17];
+pub type CueRow = [u64; 19];
 pub type RegionRow = [u64; 9];
 pub type StyleRow = [u64; 2];
 pub type NodeRow = [u64; 7];
+/// How many words the row of a new cue has.
+pub const NEW_CUE_WORDS: usize = 20;
 
 /// The lists that reading gives, as rows.
 #[derive(Debug, Clone, PartialEq, Eq)]

@@ -1,5 +1,6 @@
 //! What cues and regions are made of, their opening values, and the words of their rows.
 
+use super::lines::Lines;
 use super::numbers::ONE;
 use super::{CueRow, RegionRow, StyleRow};
 
@@ -82,7 +83,8 @@ pub struct Cue {
 }
 
 impl Cue {
-    pub fn row(&self) -> CueRow {
+    /// The row of a cue that was read from these lines.
+    pub fn row(&self, lines: Lines) -> CueRow {
         let [id_from, id_to] = self.identifier.words();
         let [text_from, text_to] = self.text.words();
         let s = &self.settings;
@@ -113,6 +115,8 @@ impl Cue {
             s.size,
             s.align as u64,
             s.region.map_or(0, |index| index + 1),
+            lines.first as u64,
+            lines.count as u64,
         ]
     }
 }

@@ -1,15 +1,17 @@
 //! Replacing one cue in a raw file, and rewriting a raw file: converting, reading and writing one after the other.
 
-use super::blocks::{parse, ReadCue};
+use super::blocks::parse;
+use super::lines::Beginnings;
 use super::model::{Cue, Part, Region};
 use super::names::last_region;
 use super::writable::{cue_contents, cue_tests, part, Failed};
 use super::written::{cue_block, write};
 use super::{
     convert, no_gap, no_signature, no_such_cue, not_writable, out_too_short, over_limit, read, too_long, Refusal, Replaced, GREATEST_FILE,
+    NEW_CUE_WORDS,
 };
 
-/// Replacing: checks 1 (input), 2, 4, 5, 7, 8, 9, 1 (output), 10. A row of other than 18 words fails test 1.
+/// Replacing: checks 1 (input), 2, 4, 5, 7, 8, 9, 1 (output), 10. A row of another count of words fails test 1.
 pub fn replace(raw: &[u8], number: usize, row: &[u64], text: &[u8], scratch: usize, out: usize) -> Replaced {
     // Checks 1 (input) and 2 are those of converting; where they pass, scratch holds the plain text.
     let plain = match convert(raw, scratch) {
@@ -31,7 +33,8 @@ fn replace_in(raw: &[u8], plain: &[u8], number: usize, row: &[u64], text: &[u8],
     // 8.
     let (cue, name) = new_cue(text, row, plain, &file.regions).map_err(|test| not_writable(2, number, test))?;
     // 9. Raw lines and plain lines have the same numbers. No cue stands on the first line, where the signature is.
-    let (first, last) = line_numbers(plain, old);
+    let numbers = Beginnings::of(plain).lines(&old.own);
+    let (first, last) = (numbers.first - 1, numbers.first + numbers.count - 2);
     let lines = raw_lines(raw);
     let line_before = lines[first - 1];
     if !cue.identifier.of(text).is_empty() && line_before.from != line_before.to {
@@ -54,8 +57,8 @@ fn replace_in(raw: &[u8], plain: &[u8], number: usize, row: &[u64], text: &[u8],
 
 /// The new cue and the part that is its region's name, or the first failing test.
 fn new_cue(text: &[u8], row: &[u64], plain: &[u8], regions: &[Region]) -> Result<(Cue, Part), Failed> {
-    // 1. The name is a part like the others.
-    if row.len() != 18 {
+    // 1. The name is a part like the others. The last two words are not looked at.
+    if row.len() != NEW_CUE_WORDS {
         return Err(1);
     }
     let mut words = [0; 16];
@@ -69,12 +72,6 @@ fn new_cue(text: &[u8], row: &[u64], plain: &[u8], regions: &[Region]) -> Result
         cue.settings.region = Some(last_region(name.of(text), plain, regions).ok_or(6_u64)?);
     }
     Ok((cue, name))
-}
-
-/// The numbers, from 0, of the first and the last of a cue's own lines.
-fn line_numbers(plain: &[u8], cue: &ReadCue) -> (usize, usize) {
-    let line_feeds = |place: usize| plain[..place].iter().filter(|&&c| c == b'\n').count();
-    (line_feeds(cue.lines.from), line_feeds(cue.lines.to))
 }
 
 /// Where the raw lines stand, without their terminators. They end at CR LF, at any other CR or LF, or with the file.

@@ -7,7 +7,7 @@ use super::model::{
 use super::numbers::{is_space, GREATEST_NUMBER, ONE};
 use super::plain::first_not_plain;
 use super::times::GREATEST_TIME;
-use super::{RegionRow, StyleRow};
+use super::{CueRow, RegionRow, StyleRow};
 
 /// The number of the first failing test.
 pub type Failed = u64;
@@ -56,8 +56,8 @@ pub fn cue_contents(text: &[u8], row: &[u64; 16]) -> Result<Cue, Failed> {
     Ok(Cue { identifier, start: row[2], end: row[3], text: cue_text, settings })
 }
 
-/// Test 1 of a cue's whole row.
-pub fn cue_of_row(text: &[u8], row: &[u64; 17]) -> Result<Cue, Failed> {
+/// Test 1 of a cue's whole row. Its lines are not looked at.
+pub fn cue_of_row(text: &[u8], row: &CueRow) -> Result<Cue, Failed> {
     let mut words = [0; 16];
     words.copy_from_slice(&row[..16]);
     let mut cue = cue_contents(text, &words)?;

@@ -11,7 +11,11 @@ use borrow.Author.Tests.{ltb-true, ne-eqb}
 use Rattle.laws.proofs.Tests.{and-left, and-right, and-false, or-true, or-false}
 use Rattle.laws.proofs.Runs.{run-next}
 use Rattle.format.specs.Blocks.{holdsArrow}
-use Rattle.blocks.specs.Collecting.{linesFrom, headAfter, collectFrom, inLine, lineAt}
+use Rattle.blocks.specs.declared.collecting.Head.{Head}
+use Rattle.blocks.specs.declared.collecting.Stop.{Stop}
+use Rattle.blocks.specs.declared.collecting.Why.{Why}
+use Rattle.blocks.specs.declared.collecting.Why.the-variants as Why
+use Rattle.blocks.specs.Collecting.{linesFrom, headAfter, moreLines, collectFrom, inLine, lineAt}
 use Rattle.blocks.proofs.LineLaws.{line-stop, lines-end, arrow-next, collect-empty, collect-arrow, collect-line}
 use borrow.Author.Needs.{needs}
 use Rattle.blocks.proofs.collecting.collect.Statement.{statement}
@@ -19,7 +23,7 @@ use Rattle.blocks.proofs.collecting.collect.Tie as tie
 
 -- what is left of the line, from i on, ends where the line ends, and holds an arrow where the line does and none was found
 abbrev Inv-loop : tie.InvT-loop
-Inv-loop s from line to head i₀ arrow₀ i arrow =
+Inv-loop s from line to lines head i₀ arrow₀ i arrow =
     (line ≤ i)
     × (i ≤ length s)
     × (i + length (lineAt s i) ≡ line + length (lineAt s line))
@@ -27,18 +31,32 @@ Inv-loop s from line to head i₀ arrow₀ i arrow =
     × (eqb (head .left) 0 && arrow ≡ false)
 
 abbrev μ-loop : tie.MeasureT-loop
-μ-loop s from line to head i₀ arrow₀ i arrow = length s - i
+μ-loop s from line to lines head i₀ arrow₀ i arrow = length s - i
 
 -- what is left of the lines, from this one on, gives the whole
 abbrev Inv-block : tie.InvT-block
-Inv-block s from line₀ to₀ head₀ line to head =
-    (line ≤ length s) × (collectFrom head to (linesFrom s line) ≡ collectFrom head₀ from (linesFrom s from))
+Inv-block s from line₀ to₀ lines₀ head₀ line to lines head =
+    (line ≤ length s) × (moreLines lines (collectFrom head to (linesFrom s line)) ≡ collectFrom head₀ from (linesFrom s from)) × (lines ≤ line)
 
 abbrev μ-block : tie.MeasureT-block
-μ-block s from line₀ to₀ head₀ line to head = length s + 1 - line
+μ-block s from line₀ to₀ lines₀ head₀ line to lines head = length s + 1 - line
+
+-- a stop at which no further line was taken
+with-none :
+    (n : ℕ) (why : Why) (at to : ℕ) (h : Head)
+    → record { why = why; at = at; to = to; lines = n; head = h } ≡ moreLines n (record { why = why; at = at; to = to; lines = 0; head = h })
+with-none n why at to h =
+    let e : n ≡ n + 0 = omega arith in ap (λ k. record { why = why; at = at; to = to; lines = k; head = h }) e
+
+more-none : (st : Stop) → moreLines 0 st ≡ st
+more-none st =
+    let e : 0 + st .lines ≡ st .lines = omega arith in
+    ap (λ k. record { why = st .why; at = st .at; to = st .to; lines = k; head = st .head }) e
 
 block-holds : tie.Need-block-holds Inv-loop μ-loop Inv-block μ-block
-block-holds c = (omega arith, refl)
+block-holds c =
+    let a = c .before .args in
+    (omega arith, more-none (collectFrom (a .known) (a .from) (linesFrom (a .s .now) (a .from))), omega arith)
 
 loop-holds : tie.Need-loop-holds Inv-loop μ-loop Inv-block μ-block
 loop-holds c = (omega arith, omega arith, refl, refl, and-false (eqb (c .block .head .left) 0) false refl)
@@ -145,7 +163,7 @@ step :
     (c : tie.After-after Inv-loop μ-loop Inv-block μ-block)
     → let l = c .before .before in
     let args = done l .before .before .before .args in
-    collectFrom (c .after .result) (done l .loop .i) (linesFrom (text l) (done l .loop .i + 1))
+    moreLines (done l .before .block .lines + 1) (collectFrom (c .after .result) (done l .loop .i) (linesFrom (text l) (done l .loop .i + 1)))
     ≡ collectFrom (args .known) (args .from) (linesFrom (text l) (args .from))
 step c =
     let l = c .before .before in
@@ -153,10 +171,16 @@ step c =
     let i = done l .loop .i in
     let none : eqb (own .head .left) 0 && holdsArrow (lineAt (text l) (from l)) ≡ false = rw (line-arrow l) (done l .loop .inv .4) in
     let some : 0 < length (lineAt (text l) (from l)) = omega (arith, line-end l, c .before .if4 .left) in
+    let ahead = collectFrom (headAfter (own .head) i (holdsArrow (lineAt (text l) (from l)))) i (linesFrom (text l) (i + 1)) in
+    let more : own .lines + 1 + ahead .lines ≡ own .lines + (1 + ahead .lines) = omega arith in
     rw (c .after .ensures)
-    (ap (λ t. collectFrom (headAfter (own .head) i t) i (linesFrom (text l) (i + 1))) (sym (line-arrow l))
-    ∙ sym (collect-line (text l) (from l) (own .head) (own .to) (own .inv .0) some i (line-end l) none)
+    (ap (λ t. moreLines (own .lines + 1) (collectFrom (headAfter (own .head) i t) i (linesFrom (text l) (i + 1)))) (sym (line-arrow l))
+    ∙ ap (λ n. record { why = ahead .why; at = ahead .at; to = ahead .to; lines = n; head = ahead .head }) more
+    ∙ ap (moreLines (own .lines)) (sym (collect-line (text l) (from l) (own .head) (own .to) (own .inv .0) some i (line-end l) none))
     ∙ own .inv .1)
+
+add-lines : tie.Need-add-lines Inv-loop μ-loop Inv-block μ-block
+add-lines c = omega arith
 
 add-line : tie.Need-add-line Inv-loop μ-loop Inv-block μ-block
 add-line c = omega arith
@@ -165,14 +189,15 @@ block-less : tie.Need-block-less Inv-loop μ-loop Inv-block μ-block
 block-less c = omega arith
 
 block-again : tie.Need-block-again Inv-loop μ-loop Inv-block μ-block
-block-again c = (omega arith, step (c .before))
+block-again c = (omega arith, step (c .before), omega arith)
 
 returns : tie.Need-returns Inv-loop μ-loop Inv-block μ-block
 returns c =
     let l = c .before .before in
     let own = at l .before .block in
     let some : 0 < length (lineAt (s l) (line l)) = omega (arith, ap length (goes-on l)) in
-    sym (collect-arrow (s l) (line l) (own .head) (own .to) (own .inv .0) some (c .if3 .taken) (arrow-found l (c .before .if2 .taken)))
+    with-none (own .lines) Why.Arrow (line l) (own .to) (own .head)
+    ∙ ap (moreLines (own .lines)) (sym (collect-arrow (s l) (line l) (own .head) (own .to) (own .inv .0) some (c .if3 .taken) (arrow-found l (c .before .if2 .taken))))
     ∙ own .inv .1
 
 returns-2 : tie.Need-returns-2 Inv-loop μ-loop Inv-block μ-block
@@ -180,14 +205,19 @@ returns-2 c =
     let l = c .before in
     let own = done l .before .block in
     let none : lineAt (text l) (from l) ≡ [] = rw (c .if4 .taken) at (ended l) in
-    sym (collect-empty (text l) (from l) (own .head) (own .to) (own .inv .0) none) ∙ own .inv .1
+    with-none (own .lines) Why.EmptyLine (from l) (own .to) (own .head)
+    ∙ ap (moreLines (own .lines)) (sym (collect-empty (text l) (from l) (own .head) (own .to) (own .inv .0) none))
+    ∙ own .inv .1
 
 returns-3 : tie.Need-returns-3 Inv-loop μ-loop Inv-block μ-block
 unfolding collectFrom
 returns-3 c =
     let l = c .before .before .before in
     let i = done l .loop .i in
-    sym (ap (collectFrom (c .before .after .result) i) (lines-end (text l) (i + 1) (omega arith))) ∙ step (c .before)
+    let lines = done l .before .block .lines + 1 in
+    with-none lines Why.End i i (c .before .after .result)
+    ∙ sym (ap (λ r. moreLines lines (collectFrom (c .before .after .result) i r)) (lines-end (text l) (i + 1) (omega arith)))
+    ∙ step (c .before)
 
 pub collect-spec : {M : Type 1} → statement M
-collect-spec = tie.close (tie.spec Inv-loop μ-loop Inv-block μ-block block-holds loop-holds in-line-requires arrow-at-requires add-i loop-less loop-again after-requires add-line block-less block-again returns returns-2 returns-3)
+collect-spec = tie.close (tie.spec Inv-loop μ-loop Inv-block μ-block block-holds loop-holds in-line-requires arrow-at-requires add-i loop-less loop-again after-requires add-lines add-line block-less block-again returns returns-2 returns-3)

@@ -24,13 +24,10 @@ returns c =
     unsigned s (le-ltb maxText (length s) (start .pre .0)) (le-ltb (firstNotPlain s) (length s) (start .pre .1))
     (sym (found .has-signature .ensures) ∙ not-true (found .has-signature .result) (c .if1 .taken))
 
-past-header-requires : tie.Need-past-header-requires
-past-header-requires c κs = search needs
-
 count-items-requires : tie.Need-count-items-requires
 count-items-requires c κs =
-    let start = c .before .before .before .before in
-    rw (c .past-header .ensures) (after-header (start .args .s .now) .0, start .pre .0)
+    let start = c .before .before .before in
+    rw (start .pre .2) (after-header (start .args .s .now) .0, start .pre .0)
 
 counted-requires : tie.Need-counted-requires
 counted-requires c κs = search needs
@@ -38,15 +35,15 @@ counted-requires c κs = search needs
 returns-2 : tie.Need-returns-2
 unfolding items
 returns-2 c =
-    let out = c .before .before .before in
+    let out = c .before .before in
     let found = out .before in
     let start = found .before .before in
     let s = start .args .s .now in
-    let all : tallyIs (itemsFrom false (fresh s (c .before .before .past-header .result))) ≡ tallyIs (items s) =
-    ap (λ p. tallyIs (itemsFrom false (fresh s p))) (c .before .before .past-header .ensures) ∙ ap (λ bs. tallyIs (itemsFrom false bs)) (sym (after-header s .1)) in
+    let all : tallyIs (itemsFrom false (fresh s (start .args .from))) ≡ tallyIs (items s) =
+    ap (λ p. tallyIs (itemsFrom false (fresh s p))) (start .pre .2) ∙ ap (λ bs. tallyIs (itemsFrom false bs)) (sym (after-header s .1)) in
     rw (c .counted .ensures, c .before .count-items .ensures, all)
     (measured s (le-ltb maxText (length s) (start .pre .0)) (le-ltb (firstNotPlain s) (length s) (start .pre .1))
     (sym (found .has-signature .ensures) ∙ not-false (found .has-signature .result) (out .if1 .left)))
 
 pub measure-spec : {M : Type 1} → statement M
-measure-spec = tie.close (tie.spec has-signature-requires returns past-header-requires count-items-requires counted-requires returns-2)
+measure-spec = tie.close (tie.spec has-signature-requires returns count-items-requires counted-requires returns-2)

@@ -42,30 +42,34 @@ enum-told-2 c = search needs
 enum-known-cue : tie.Need-enum-known-cue
 enum-known-cue c = search needs
 
+lines-of-requires : tie.Need-lines-of-requires
+lines-of-requires c κs = search needs
+
 entry-requires : tie.Need-entry-requires
-entry-requires c κs = let start = c .before .before .before .before .before .before .before .before .before .before in (start .pre .0, start .pre .1 .0)
+entry-requires c κs = let start = c .before .before .before .before .before .before .before .before .before .before .before in (start .pre .0, start .pre .1 .0)
 
 -- the first regions, as many as there are
 slice-reshare-prefix-entry : tie.Need-slice-reshare-prefix-entry
-slice-reshare-prefix-entry c = cue-room (c .before) .1
+slice-reshare-prefix-entry c = cue-room (c .before .before) .1
 
 slice-aggregate-entry : tie.Need-slice-aggregate-entry
 slice-aggregate-entry c =
-    let a = c .before .before .before .before .before .before .before .before .before .args in
-    sym (length-take-le (a .n .regions) (a .regions .now) (cue-room (c .before .before) .1))
+    let cue = c .before .before .before in
+    let a = cue .before .before .before .before .before .before .before .args in
+    sym (length-take-le (a .n .regions) (a .regions .now) (cue-room cue .1))
 
 cue-row-requires : tie.Need-cue-row-requires
 cue-row-requires c κs = search needs
 
-mul-t25 : tie.Need-mul-t25
-mul-t25 c =
-    let cue = c .before .before .before .before .before .before in
+mul-t27 : tie.Need-mul-t27
+mul-t27 c =
+    let cue = c .before .before .before .before .before .before .before in
     let room = cue-room cue .0 in
     let good = cue .before .before .before .before .before .before .before .good in
     search (needs, room, good)
 
 slice-set-from-cues : tie.Need-slice-set-from-cues
-slice-set-from-cues c = cue-room (c .before .before .before .before .before .before) .0
+slice-set-from-cues c = cue-room (c .before .before .before .before .before .before .before) .0
 
 enum-known-part : tie.Need-enum-known-part
 enum-known-part c = search needs
@@ -73,8 +77,12 @@ enum-known-part c = search needs
 style-row-requires : tie.Need-style-row-requires
 style-row-requires c κs = search needs
 
-mul-t28 : tie.Need-mul-t28
-mul-t28 c = let room = style-room (c .before .before) in search (needs, room)
+mul-t30 : tie.Need-mul-t30
+mul-t30 c =
+    let style = c .before .before in
+    let room = style-room style in
+    let good = style .before .before .before .before .before .before .before .good .1 .1 .1 .1 .1 .1 .1 .1 .0 in
+    search (needs, room, good)
 
 slice-set-from-styles : tie.Need-slice-set-from-styles
 slice-set-from-styles c = style-room (c .before .before)
@@ -85,8 +93,8 @@ enum-known-region c = search needs
 region-row-requires : tie.Need-region-row-requires
 region-row-requires c κs = search needs
 
-mul-t31 : tie.Need-mul-t31
-mul-t31 c =
+mul-t33 : tie.Need-mul-t33
+mul-t33 c =
     let region = c .before .before in
     let room = region-room region in
     let good = region .before .before .before .before .before .before .before .good in
@@ -112,8 +120,8 @@ same-length-3 c = search needs
 
 returns-4 : tie.Need-returns-4
 returns-4 c =
-    let made = c .before .before .before .before .before .before in
-    rw (sym (made .before .before .item-at .ensures) ∙ made .cue .given .1, c .cue-row .ensures, c .before .before .entry .ensures .0) (refl, (c .before .before .entry .ensures .1, (refl, (refl, refl))))
+    let made = c .before .before .before .before .before .before .before in
+    rw (sym (made .before .before .item-at .ensures) ∙ made .cue .given .1, c .cue-row .ensures, c .before .before .entry .ensures .0, c .before .before .before .before .before .lines-of .ensures) (refl, (c .before .before .entry .ensures .1, (refl, (refl, refl))))
 
 same-length-4 : tie.Need-same-length-4
 same-length-4 c = search needs
@@ -135,4 +143,4 @@ returns-6 c =
     rw (sym (made .before .before .item-at .ensures) ∙ made .region .given .1, c .region-row .ensures) (refl, (grown, (refl, (refl, refl))))
 
 pub put-spec : {M : Type 1} → statement M
-put-spec = tie.close (tie.spec gives-nothing-requires returns item-at-requires enum-told enum-told-2 enum-known-cue slice-reshare-prefix-entry slice-aggregate-entry entry-requires cue-row-requires mul-t25 slice-set-from-cues enum-known-part style-row-requires mul-t28 slice-set-from-styles enum-known-region region-row-requires mul-t31 slice-set-from-regions returns-2 returns-3 same-length same-length-2 same-length-3 returns-4 same-length-4 returns-5 same-length-5 returns-6)
+put-spec = tie.close (tie.spec gives-nothing-requires returns item-at-requires enum-told enum-told-2 enum-known-cue lines-of-requires slice-reshare-prefix-entry slice-aggregate-entry entry-requires cue-row-requires mul-t27 slice-set-from-cues enum-known-part style-row-requires mul-t30 slice-set-from-styles enum-known-region region-row-requires mul-t33 slice-set-from-regions returns-2 returns-3 same-length same-length-2 same-length-3 returns-4 same-length-4 returns-5 same-length-5 returns-6)

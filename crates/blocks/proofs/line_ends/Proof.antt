@@ -1,4 +1,4 @@
--- `places::lines::line_ends` meets its contract: `n` line ends stand before the place `i`.
+-- `blocks::line_ends` meets its contract: `n` line ends stand before the place `i`.
 use Prim.Native.Nat.{_≤_, _-_}
 use mathlib.Core.Path.{_≡_, refl, ap, _∙_}
 use mathlib.Core.Bool.{true, false}
@@ -8,10 +8,10 @@ use lib.ListN.{length, getD, take}
 use lib.Seq.{take-all}
 use borrow.Author.Tests.{eq-eqb, ne-eqb}
 use Rattle.format.specs.Bytes.{lf}
 use Rattle.blocks.specs.Collecting.{lineEnds}
-use Rattle.places.proofs.PlaceLaws.{ends-next}
-use Rattle.places.proofs.lines.line_ends.Statement.{statement}
-use Rattle.places.proofs.lines.line_ends.Tie as tie
+use Rattle.blocks.proofs.LineLaws.{ends-next}
+use Rattle.blocks.proofs.line_ends.Statement.{statement}
+use Rattle.blocks.proofs.line_ends.Tie as tie
 
 abbrev Inv-loop : tie.InvT-loop
 Inv-loop s i₀ n₀ i n = (i ≤ length s) × (n ≤ i) × (n ≡ lineEnds (take i s))
