@@ -45,7 +45,7 @@ left named names =
     let plain = words .before .before in
     let a = plain .before .before .before .args in
     name-decides (a .text .now) (a .row) _ names (passed (plain-is plain) (words .before .if1 .left))
-    (words .cue-of-new .ensures) (found .cue-fields-test .ensures) (named .before .if2 .left)
+    (words .cue-of-new .ensures .0, words .cue-of-new .ensures .1) (found .cue-fields-test .ensures) (named .before .if2 .left)
 
 part-plain-requires : tie.Need-part-plain-requires
 part-plain-requires c κs = search needs
@@ -67,7 +67,7 @@ returns-2 c names e =
     let plain = words .before .before in
     let a = plain .before .before .before .args in
     fields-fail (a .text .now) (a .row) _ names (passed (plain-is plain) (words .before .if1 .left))
-    (words .cue-of-new .ensures) (found .cue-fields-test .ensures) (c .if2 .taken)
+    (words .cue-of-new .ensures .0, words .cue-of-new .ensures .1) (found .cue-fields-test .ensures) (c .if2 .taken)
 
 part-requires : tie.Need-part-requires
 part-requires c κs = search needs
