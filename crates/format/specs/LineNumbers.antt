@@ -32,7 +32,7 @@ lineSpan b = record { first = suc (firstNumber b); count = length b }
 unfoldable pub lineSpans : List ℕ → List LineSpan
 lineSpans s = map lineSpan (cueBlocks s)
 
--- the lines of the cue with a number
+-- the lines of the cue with a number; 0 and 0 where there is none
 unfoldable pub spanAt : ℕ → List LineSpan → LineSpan
 spanAt number ls = getD ls number (record { first = 0; count = 0 })
 

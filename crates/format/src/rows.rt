@@ -45,7 +45,7 @@ pub const CUE_ALIGN: usize = 15;
 // 0 for none, else the region's index and one.
 pub const CUE_REGION: usize = 16;
 
-// The number of the cue's first line in the file, from 1, and its count of lines. Only reading looks at them: it stores them.
+// The number of the cue's first line in the file, from 1, and its count of lines. Reading stores them, and no other call depends on them.
 pub const CUE_FIRST_LINE: usize = 17;
 
 pub const CUE_LINES: usize = 18;

@@ -1,13 +1,13 @@
 -- Where a raw line starts and ends, as a loop goes over the bytes.
 use Prim.Native.Nat.{ℕ, zero, suc, _+_, _-_, _≤_, _<_}
-use mathlib.Core.Path.{_≡_, refl, sym, ap, _∙_}
+use mathlib.Core.Path.{_≡_, refl, sym, ap}
 use mathlib.Core.Bool.{Bool, cond}
 use mathlib.Core.List.{List, [], _∷_}
 use native.Mathlib.Numerals.{add-one}
 use native.Mathlib.Omega.{arith}
 use lib.Dec.{eqb}
 use lib.ListN.{length, getD, take, drop, drop-of-length-le}
-use lib.Seq.{take-suc, take-add, drop-cons, drop-drop, take-nil}
+use lib.Seq.{drop-cons, drop-drop, take-nil}
 use borrow.Author.Tests.{ne-eqb}
 use Rattle.format.specs.Bytes.{lf, cr}
 use Rattle.format.specs.Texts.{startsWith}

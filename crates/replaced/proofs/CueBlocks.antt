@@ -372,6 +372,14 @@ module _ (s : List ℕ) (number : ℕ) (asked : CueContents) (a : Around s numbe
             ∙ over-set is js (c .values) (d .values) (c .over) (sym (ap anyOver old) ∙ over);
       }
 
+-- the lines of a text t are those of another with the written lines of a cue in the place of one cue's own
+abbrev pub LinesReplaced : List ℕ → List ℕ → ℕ → CueContents → Type 0
+LinesReplaced s t number asked =
+    split t
+    ≡ take (firstLine s number) (split s)
+    ++ cueLines (contents (lists s) .regions) asked
+    ++ drop (firstLine s number + length (getD (cueBlocks s) number [])) (split s)
+
 -- (without the signature, an empty first line may stand right before the block, and an identifier would go into the header block)
 pub lines-read :
     (s t : List ℕ) (number : ℕ) (asked : CueContents)
@@ -380,10 +388,7 @@ pub lines-read :
     → anyOver (items s) ≡ false
     → CueWritable (contents (lists s) .regions) asked
     → not (isEmpty (asked .id)) && not (isEmpty (lineBefore s number)) ≡ false
-    → split t
-    ≡ take (firstLine s number) (split s)
-    ++ cueLines (contents (lists s) .regions) asked
-    ++ drop (firstLine s number + length (getD (cueBlocks s) number [])) (split s)
+    → LinesReplaced s t number asked
     → Reads s t number asked
 lines-read s t number asked signed h over w gap e =
     let a = around s number h in

@@ -4,7 +4,7 @@ use mathlib.Core.Path.{_≡_, refl, sym, ap, ap₂, _∙_}
 use mathlib.Core.Bool.{Bool, true, false, not, _&&_, _||_}
 use mathlib.Core.List.{List, [], _∷_, _++_, map, map-append, append-assoc}
 use native.Mathlib.Omega.{arith}
-use lib.ListN.{length, getD, take, drop, length-append, length-map}
+use lib.ListN.{length, getD, drop, length-append, length-map}
 use lib.Seq.{take-at, drop-at, getD-at, split-at, append-snoc}
 use Rattle.format.specs.Texts.{isEmpty}
 use Rattle.format.specs.Lines.{split}
@@ -14,7 +14,7 @@ use Rattle.format.specs.LineNumbers.{blockOfCue, cueBlocksFrom, cueBlocks, firs
 use Rattle.format.specs.declared.rows.LineSpan.{LineSpan}
 use Rattle.format.specs.Contents.{CueContents, contents}
 use Rattle.format.specs.Written.{linesOf, lineEnded, cueLines}
-use Rattle.format.specs.Replacing.{firstLine, lineBefore}
+use Rattle.format.specs.Replacing.{lineBefore}
 use Rattle.laws.proofs.Tests.{or-true, by-test}
 use Rattle.laws.proofs.Standing.{bytes-lines, length-bytes}
 use Rattle.laws.proofs.Blocks.{stateAfter}
@@ -27,7 +27,7 @@ use Rattle.roundtrip.proofs.Cues.{CueWritable}
 use Rattle.roundtrip.proofs.Files.{cue-read, ids-contents}
 use Rattle.replaced.proofs.Places.{movedLine, movedLines, blocks-moved, unplaced-same}
 use Rattle.replaced.proofs.OneBlock.{stop-anywhere}
-use Rattle.replaced.proofs.CueBlocks.{Around, around, front-lines, lines-before, lines-after, block-gap, blocks-around}
+use Rattle.replaced.proofs.CueBlocks.{Around, around, front-lines, lines-before, lines-after, LinesReplaced, block-gap, blocks-around}
 
 -- lines k numbers later
 abbrev laterLine : ℕ → Line → Line
@@ -253,10 +253,7 @@ pub lines-moved :
     → number < length (lists s .cues)
     → CueWritable (contents (lists s) .regions) asked
     → not (isEmpty (asked .id)) && not (isEmpty (lineBefore s number)) ≡ false
-    → split t
-    ≡ take (firstLine s number) (split s)
-    ++ cueLines (contents (lists s) .regions) asked
-    ++ drop (firstLine s number + length (getD (cueBlocks s) number [])) (split s)
+    → LinesReplaced s t number asked
     → LinesMoved number (length (cueLines (contents (lists s) .regions) asked)) (lineSpans s) (lineSpans t)
 lines-moved s t number asked signed h w gap e =
     let a = around s number h in

@@ -69,18 +69,42 @@ fn from_rust() {
     assert!(replace(&old, CUE, &cue).expect("it is accepted") == new);
 }
 
-#[test]
-fn from_c() {
-    let program = folder().join("replace");
+/// The program of an example in C.
+fn example_in_c(name: &str) -> PathBuf {
+    let program = folder().join(name);
     let warnings = ["-std=c99", "-Wall", "-Wextra", "-Werror", "-pedantic", "-I"].map(std::ffi::OsStr::new);
-    let (header, example) = (above("include"), above("examples/replace.c"));
+    let (header, example) = (above("include"), above("examples").join(name).with_extension("c"));
     let archive = archive();
     let files = [header.as_os_str(), "-o".as_ref(), program.as_os_str(), example.as_os_str(), archive.as_os_str()];
     compiled(&[warnings.as_slice(), files.as_slice()].concat());
+    program
+}
+
+#[test]
+fn from_c() {
+    let program = example_in_c("replace");
     try_caller(
         |captions, cue| Command::new(&program).arg(captions).args([cue, "1000", "2500", "The last tram."]).output().expect("it runs"),
         "c",
     );
+}
+
+/// The second and the ninth example of request Q-8, one without a list, and a file that is refused.
+#[test]
+fn lines_from_c() {
+    let (program, captions) = (example_in_c("lines"), folder().join("lines.vtt"));
+    let cases: [(&str, Result<&str, &str>); 4] = [
+        ("WEBVTT\n\na\n00:01.000 --> 00:02.000\nx\ny\n\n\n00:03.000 --> 00:04.000\n", Ok("3 4 1000 2000\n9 1 3000 4000\n")),
+        ("WEBVTT\n\nNOTE\n\nSTYLE\nx\n\na\n00:03.000 --> 00:04.000\nb", Ok("8 3 3000 4000\n")),
+        ("WEBVTT", Ok("")),
+        ("WEBVTX", Err("refused 4\n")),
+    ];
+    for (raw, expected) in cases {
+        std::fs::write(&captions, raw).expect("the file is written");
+        let output = Command::new(&program).arg(&captions).output().expect("it runs");
+        let told = if output.status.success() { Ok(output.stdout) } else { Err(output.stderr) };
+        assert_eq!(told, expected.map(|lines| lines.into()).map_err(|error| error.into()), "{raw:?}");
+    }
 }
 
 /// The widths that C takes from the header are those of the rows here: nothing else would tell, since a caller in C lends what the header says.
