@@ -75,7 +75,8 @@ fn one(name: &str, raw: &[u8], every: bool, quiet: bool, sums: &mut Sums) -> Str
             return format!("{}\n", refusals::of_reading(name, raw, &refusal).message);
         }
     };
-    let unwritable: Vec<String> = file.cues().enumerate().filter_map(|(number, cue)| unwritable(&file, number, &cue)).collect();
+    let regions: Vec<Region<&str>> = file.regions().collect();
+    let unwritable: Vec<String> = file.cues().enumerate().filter_map(|(number, cue)| unwritable(&regions, number, &cue)).collect();
     let warnings = warnings::of(raw, &file, every);
     sums.accepted += 1;
     sums.unwritable += unwritable.len() as u64;
@@ -96,7 +97,8 @@ fn one(name: &str, raw: &[u8], every: bool, quiet: bool, sums: &mut Sums) -> Str
         let column = warning.column.map_or(String::new(), |column| format!(":{column}"));
         let (standard, seen) = warning.kind.words();
         let (line, kind, what) = (warning.line, warning.kind.name(), &warning.what);
-        lines.push_str(&format!("{name}:{line}{column}: warning: {kind}: {what}; the standard: {standard}; seen: {seen}\n"));
+        let next = if screen::is_terminal() { "\n    " } else { "; " };
+        lines.push_str(&format!("{name}:{line}{column}: warning: {kind}: {what}{next}the standard: {standard}{next}seen: {seen}\n"));
     }
     for (kind, count) in warnings.left_out() {
         lines.push_str(&format!("{name}: warning: {kind}: {count} more of these; --all prints them\n"));
@@ -106,10 +108,10 @@ fn one(name: &str, raw: &[u8], every: bool, quiet: bool, sums: &mut Sums) -> Str
 
 /// Why a cue could not be written, after its line. A read cue's region is the last of its name, so beside that region alone it is judged as in the
 /// whole file.
-fn unwritable(file: &File, number: usize, cue: &Cue<&str>) -> Option<String> {
-    let region: Vec<Region<&str>> = cue.region.and_then(|index| file.regions().nth(index)).into_iter().collect();
+fn unwritable(regions: &[Region<&str>], number: usize, cue: &Cue<&str>) -> Option<String> {
+    let its_region = cue.region.map_or(&regions[..0], |index| &regions[index..=index]);
     let alone = Cue { region: cue.region.map(|_| 0), ..*cue };
-    let reason = match spatzenherd::write(&[], &region, &[alone]) {
+    let reason = match spatzenherd::write(&[], its_region, &[alone]) {
         Ok(_) => return None,
         Err(Refusal::NotWritable { test, .. }) => refusals::cue_reason(test, cue.start, cue.end),
         Err(refusal) => refusal.to_string(),

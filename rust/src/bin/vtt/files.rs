@@ -119,7 +119,12 @@ pub fn kept_words(kept: &Option<PathBuf>) -> String {
 
 /// The file that a name leads to: a link stays a link, and what it leads to is replaced.
 fn followed(file: &Path) -> Result<PathBuf, Failure> {
-    fs::canonicalize(file).map_err(cannot_write(file))
+    let is_link = fs::symlink_metadata(file).map_err(cannot_write(file))?.is_symlink();
+    if is_link {
+        fs::canonicalize(file).map_err(cannot_write(file))
+    } else {
+        Ok(file.to_path_buf())
+    }
 }
 
 /// A file that may not be written is not replaced either, though its folder would allow it.
