@@ -169,7 +169,10 @@ impl Beside {
     /// With these bytes. A private one is its owner's alone until it takes over another file's permissions.
     fn written(place: &Path, bytes: &[u8], private: bool) -> Result<Beside, Failure> {
         let mode = if private { 0o600 } else { 0o666 };
-        let (beside, mut open) = Beside::made(place, mode).map_err(cannot_write(place))?;
+        let (beside, mut open) = Beside::made(place, mode).map_err(|error| match error.kind() {
+            ErrorKind::NotFound => Failure::unreached(place.display(), "cannot be written: its folder does not exist"),
+            _ => cannot_write(place)(error),
+        })?;
         open.write_all(bytes).and_then(|()| open.sync_all()).map_err(cannot_write(place))?;
         Ok(beside)
     }
