@@ -126,6 +126,7 @@ pub fn parse(words: impl IntoIterator<Item = OsString>) -> Result<Command, Misus
         Some("help") => {
             return match words.next() {
                 None => Ok(Command::Help(None)),
+                Some(word) if word == "help" || word == "--help" => Ok(Command::Help(None)),
                 Some(word) => Name::of(&word).map(|name| Command::Help(Some(name))).ok_or_else(|| general(unknown(&word))),
             }
         }

@@ -22,7 +22,10 @@ pub fn unified(name: &str, old: &[u8], new: &[u8]) -> Vec<u8> {
         range(before - above.len(), above.len() + added.len() + below.len())
     );
     let mut out = Shown { bytes: vec![], terminal: screen::is_terminal() };
-    out.put(None, format!("--- {name}\n+++ {name}\n").as_bytes());
+    // As `diff` does, a tab ends a name that has a space, so that `patch` finds it.
+    let end = if name.contains(' ') { "\t" } else { "" };
+    out.put(None, format!("--- {name}{end}\n").as_bytes());
+    out.put(None, format!("+++ {name}{end}\n").as_bytes());
     out.put(Some(Colour::Cyan), head.as_bytes());
     out.all(None, b" ", above);
     out.all(Some(Colour::Red), b"-", removed);

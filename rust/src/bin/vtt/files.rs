@@ -64,11 +64,12 @@ pub fn put_out(output: &Output, bytes: &[u8]) -> Result<u8, Failure> {
     }
 }
 
-/// Writes a file. What is no regular file, a device for example, is written to as it is.
+/// Writes a file. What is no regular file, a device or a link that leads nowhere for example, is written to as it is.
 fn write(file: &Path, bytes: &[u8]) -> Result<(), Failure> {
     let old = fs::metadata(file).ok();
-    if old.as_ref().is_some_and(|old| !old.is_file()) {
-        let mut open = OpenOptions::new().write(true).open(file).map_err(cannot_write(file))?;
+    let leads_nowhere = old.is_none() && fs::symlink_metadata(file).is_ok();
+    if leads_nowhere || old.as_ref().is_some_and(|old| !old.is_file()) {
+        let mut open = OpenOptions::new().write(true).create(leads_nowhere).open(file).map_err(cannot_write(file))?;
         return open.write_all(bytes).map_err(cannot_write(file));
     }
     let place = if old.is_some() { followed(file)? } else { file.to_path_buf() };
@@ -191,9 +192,11 @@ impl Beside {
     /// Takes over the permissions of the file whose place it takes, and its owner and group where the system lets us.
     fn take_over(&self, old: &fs::Metadata, file: &Path) -> Result<(), Failure> {
         let own = fs::metadata(&self.path).map_err(cannot_write(file))?;
-        let differs = (own.uid(), own.gid()) != (old.uid(), old.gid());
-        if differs && chown(&self.path, Some(old.uid()), Some(old.gid())).is_err() {
-            screen::tell(&format!("{}: note: its owner or group could not be kept", file.display()));
+        if own.gid() != old.gid() && chown(&self.path, None, Some(old.gid())).is_err() {
+            screen::tell(&format!("{}: note: its group could not be kept", file.display()));
+        }
+        if own.uid() != old.uid() && chown(&self.path, Some(old.uid()), None).is_err() {
+            screen::tell(&format!("{}: note: its owner could not be kept", file.display()));
         }
         fs::set_permissions(&self.path, old.permissions()).map_err(cannot_write(file))
     }

@@ -117,7 +117,7 @@ fn quoted(string: &str) -> String {
             '"' | '\\' => out.extend(['\\', c]),
             '\n' => out.push_str("\\n"),
             '\t' => out.push_str("\\t"),
-            c if (c as u32) < 32 => {
+            c if c.is_control() => {
                 let _ = write!(out, "\\u{:04x}", c as u32);
             }
             c => out.push(c),
@@ -138,11 +138,11 @@ fn as_json(name: &str, file: &File) -> String {
     let styles = entries(file.styles().map(quoted));
     let regions = entries(file.regions().map(|region| {
         let area = &region.area;
-        let anchor = |(x, y)| format!("[{}, {}]", decimal(x), decimal(y));
+        let anchor = |(x, y)| format!("[\"{}\", \"{}\"]", percentage(x), percentage(y));
         format!(
-            "{{\"id\": {}, \"width\": {}, \"lines\": {}, \"regionanchor\": {}, \"viewportanchor\": {}, \"scroll\": \"{}\"}}",
+            "{{\"id\": {}, \"width\": \"{}\", \"lines\": {}, \"regionanchor\": {}, \"viewportanchor\": {}, \"scroll\": \"{}\"}}",
             quoted(region.identifier),
-            decimal(area.width),
+            percentage(area.width),
             area.lines,
             anchor(area.region_anchor),
             anchor(area.viewport_anchor),

@@ -16,8 +16,11 @@ pub fn run(path: &Path, which: &Which, changes: &Changes, output: &Output, quiet
     let old = file.cue(number).map_err(|_| refusals::no_such_cue(&name, &file, &format!("there is no cue {number}")))?;
     let new = given.over(&file, &old);
     let bytes = spatzenherd::replace(&raw, number, &new).map_err(|refusal| refusals::of_replacing(&name, &file, number, &new, &refusal))?;
-    if given.text.is_none() && std::str::from_utf8(&raw[own_bytes(&raw, old.lines)]).is_err() {
-        screen::tell(&format!("{name}:{}: note: the cue holds bytes that are no UTF-8; the new cue has U+FFFD for them", old.lines.first));
+    let own = &raw[own_bytes(&raw, old.lines)];
+    let kept = [given.text.is_none().then_some(old.text), given.identifier.is_none().then_some(old.identifier)];
+    let exchanged = kept.iter().flatten().any(|part| part.contains(char::REPLACEMENT_CHARACTER));
+    if exchanged && (own.contains(&0) || std::str::from_utf8(own).is_err()) {
+        screen::tell(&format!("{name}:{}: note: the cue holds NUL or broken bytes; the new cue has U+FFFD for them", old.lines.first));
     }
     match output {
         Output::Diff => files::print(&diff::unified(&name, &raw, &bytes)),

@@ -51,6 +51,8 @@ pub fn region_name(word: &str) -> Option<&str> {
 pub struct Effect {
     /// It changes no cue's settings.
     pub none: bool,
+    /// Its number is above its limit; then no more is known of it.
+    pub over: bool,
     /// It makes a horizontal cue vertical.
     pub turns: bool,
     /// It takes a horizontal cue's region, and a vertical one's.
@@ -60,7 +62,7 @@ pub struct Effect {
 /// Settings of which every one is another than a cue has at first.
 const OTHERS: &str = "vertical:lr line:1,end position:1%,line-right size:1% align:end";
 
-/// Asks what a setting does: over the opening settings, over others, and beside a region. A number above its limit has no effect here.
+/// Asks what a setting does: over the opening settings, over others, and beside a region.
 pub fn effect(setting: &str) -> Effect {
     let line = |before: &str| format!("00:00.000 --> 00:00.000 {before} {setting}\n\n");
     let file = File::read(
@@ -73,12 +75,13 @@ pub fn effect(setting: &str) -> Effect {
         )
         .as_bytes(),
     );
-    let nothing = Effect { none: true, turns: false, cancels: [false; 2] };
+    let nothing = Effect { none: true, over: file.is_err(), turns: false, cancels: [false; 2] };
     let Ok(file) = file else { return nothing };
     let cues: Vec<Cue<&str>> = file.cues().collect();
     let [others, alone, over_others, beside, beside_vertical] = cues[..] else { return nothing };
     Effect {
         none: alone.settings == Settings::default() && over_others.settings == others.settings,
+        over: false,
         turns: alone.settings.vertical != Vertical::Horizontal,
         cancels: [beside.region.is_none(), beside_vertical.region.is_none()],
     }
@@ -98,6 +101,7 @@ pub fn settings(given: &str) -> Result<(Settings, String), String> {
                 line.push_str(&format!(" region:{}", names.len()));
                 names.push(name);
             }
+            _ if effect(word).over => return Err(format!("the number of \"{word}\" is beyond 999,999")),
             _ if effect(word).none => return Err(format!("\"{word}\" would have no effect; {}", hint(word))),
             _ => {
                 line.push(' ');
@@ -134,14 +138,31 @@ pub fn hint(word: &str) -> String {
     }
 }
 
-/// Is a tag, from its `<` to its `>`, read as one: does it open something, or close it, wherever it stands.
-pub fn tag_is_read(tag: &str) -> bool {
-    let nodes = |text: String| Tree::read(&text).map_or(0, |tree| tree.nodes().len());
-    if !tag.starts_with("</") && (Tree::read(tag).is_err() || nodes(tag.to_string()) > 0 || nodes(format!("<ruby>{tag}")) > 1) {
-        return true;
-    }
+/// How a tag is read.
+#[derive(Clone, Copy, Debug, PartialEq, Eq)]
+pub enum Tag {
+    /// It opens something, or closes it, or is a time, at least in some place.
+    Read,
+    /// It is left out.
+    Unknown,
+    /// A time with hours above their limit: the text that has it is refused.
+    OverLimit,
+}
+
+/// Asks how a tag, from its `<` to its `>`, is read.
+pub fn tag(tag: &str) -> Tag {
     let openers = ["<c>", "<i>", "<b>", "<u>", "<ruby>", "<ruby><rt>", "<v>", "<lang>"];
-    tag.starts_with("</") && openers.iter().any(|opener| closes(opener, tag))
+    let nodes = |text: &str| Tree::read(text).map(|tree| tree.nodes().len());
+    let read = match nodes(tag) {
+        Err(_) => return Tag::OverLimit,
+        Ok(_) if tag.starts_with("</") => openers.iter().any(|opener| closes(opener, tag)),
+        Ok(count) => count > 0 || nodes(&format!("<ruby>{tag}")).is_ok_and(|count| count > 1),
+    };
+    if read {
+        Tag::Read
+    } else {
+        Tag::Unknown
+    }
 }
 
 /// Does a tag close what an opening one opened: a text after it stands elsewhere than one before it.
@@ -220,25 +241,14 @@ mod tests {
 
     #[test]
     fn tags_and_escapes_are_asked() {
-        for tag in [
-            "<i>",
-            "</i>",
-            "<c.red>",
-            "</c>",
-            "<v Anna>",
-            "</v>",
-            "<rt>",
-            "</rt>",
-            "<ruby>",
-            "</ruby>",
-            "<lang de>",
-            "<00:01.000>",
-            "<100000:00:00.000>",
-        ] {
-            assert!(tag_is_read(tag), "{tag}");
+        assert_eq!(tag("<100000:00:00.000>"), Tag::OverLimit);
+        for known in
+            ["<i>", "</i>", "<c.red>", "</c>", "<v Anna>", "</v>", "<rt>", "</rt>", "<ruby>", "</ruby>", "<lang de>", "<00:01.000>"]
+        {
+            assert_eq!(tag(known), Tag::Read, "{known}");
         }
-        for tag in ["<foo>", "</foo>", "<br>", "<>", "</>", "<3 you>", "<I>", "</c.red>", "<00:01>"] {
-            assert!(!tag_is_read(tag), "{tag}");
+        for unknown in ["<foo>", "</foo>", "<br>", "<>", "</>", "<3 you>", "<I>", "</c.red>", "<00:01>"] {
+            assert_eq!(tag(unknown), Tag::Unknown, "{unknown}");
         }
         assert!(escape_is_read("&amp;") && escape_is_read("&nbsp;"));
         assert!(!escape_is_read("&copy;") && !escape_is_read("&amp") && !escape_is_read("&#39;"));

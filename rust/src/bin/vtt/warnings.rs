@@ -1,7 +1,7 @@
 //! Where players differ: what a file holds that the standard reads one way and common players another, or that has no effect at all. Which player
 //! and version each was seen in is in `docs/PLAYERS.md`. What is read is asked of the library; here is only where to look.
 use super::list::{field, time};
-use super::probes::{self, Effect, Setting};
+use super::probes::{self, Effect, Setting, Tag};
 use super::raw_lines::raw_lines;
 use spatzenherd::{Cue, File};
 use std::collections::{HashMap, HashSet};
@@ -25,11 +25,12 @@ pub enum Kind {
     RegionCancelled,
     TagUnknown,
     TagOpen,
+    TimestampLimit,
     EscapeNotRead,
 }
 
 /// Each kind's name, what the standard says, and what was seen. In the order of the kinds.
-const KINDS: [(&str, &str, &str); 17] = [
+const KINDS: [(&str, &str, &str); 18] = [
     ("broken-utf8", "each broken run is shown as U+FFFD", "FFmpeg drops the cue; webvtt-py refuses the file"),
     ("nul", "it is shown as U+FFFD", "in libavformat, GStreamer and VLC the text or the file ends there"),
     ("cr-alone", "it ends a line", "libavformat loses the first cue; GStreamer and VLC find none"),
@@ -58,6 +59,7 @@ const KINDS: [(&str, &str, &str); 17] = [
     ("region-cancelled", "the cue has no region", "Firefox, WebKit and Chromium with regions keep it: the caption stands elsewhere"),
     ("tag-unknown", "it is left out, and the text in it stays", "Chromium and FFmpeg do the same"),
     ("tag-open", "all from < to the cue's end is a tag and not shown", "Chromium does the same"),
+    ("timestamp-limit", "it is a timestamp; here the cue\'s text is refused by 5", "Chromium reads it"),
     (
         "escape-not-read",
         "HTML's escapes are read; here only &amp; &lt; &gt; &lrm; &rlm; &nbsp; are",
@@ -179,7 +181,7 @@ struct Search<'a> {
     regions: HashSet<&'a str>,
     /// What was asked before, for pieces that are not too long to be kept.
     effects: HashMap<&'a str, Effect>,
-    tags: HashMap<&'a str, bool>,
+    tags: HashMap<&'a str, Tag>,
     warnings: Warnings,
 }
 
@@ -327,10 +329,13 @@ impl<'a> Search<'a> {
             };
             let tag = &rest[..=end];
             next = at + tag.len();
-            if !remembered(&mut self.tags, tag, probes::tag_is_read) {
-                let (line, column) = place.to(at);
-                self.warnings.add(Kind::TagUnknown, line, column, || format!("{} is no tag of WebVTT", shown(tag)));
-            }
+            let (kind, what) = match remembered(&mut self.tags, tag, probes::tag) {
+                Tag::Read => continue,
+                Tag::Unknown => (Kind::TagUnknown, "is no tag of WebVTT"),
+                Tag::OverLimit => (Kind::TimestampLimit, "has hours above 99,999"),
+            };
+            let (line, column) = place.to(at);
+            self.warnings.add(kind, line, column, || format!("{} {what}", shown(tag)));
         }
     }
 
