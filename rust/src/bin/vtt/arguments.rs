@@ -283,6 +283,9 @@ impl Sorted {
     fn file_and_cue(&mut self) -> Result<(PathBuf, Which), String> {
         let line = self.number("--line")?.map(Which::Line);
         let identifier = self.word("--identifier")?.map(Which::Identifier);
+        if identifier == Some(Which::Identifier(String::new())) {
+            return Err("--identifier needs an identifier; a cue without one is named by its number or a line".into());
+        }
         if line.is_some() && identifier.is_some() {
             return Err("--line and --identifier cannot both be given".into());
         }
@@ -421,6 +424,7 @@ mod tests {
             &["mend", "a.vtt", "x", "--start", "1"],
             &["mend", "a.vtt", "0", "1", "--start", "1"],
             &["mend", "a.vtt", "--line", "1x", "--start", "1"],
+            &["mend", "a.vtt", "--identifier", "", "--start", "1"],
             &["mend", "--start", "1"],
             &["tree", "a.vtt"],
         ] {

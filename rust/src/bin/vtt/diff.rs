@@ -28,10 +28,53 @@ pub fn unified(name: &str, old: &[u8], new: &[u8]) -> Vec<u8> {
     out.put(None, format!("+++ {name}{end}\n").as_bytes());
     out.put(Some(Colour::Cyan), head.as_bytes());
     out.all(None, b" ", above);
-    out.all(Some(Colour::Red), b"-", removed);
-    out.all(Some(Colour::Green), b"+", added);
+    for change in changes(removed, added) {
+        match change {
+            Change::Removed(line) => out.all(Some(Colour::Red), b"-", &[line]),
+            Change::Added(line) => out.all(Some(Colour::Green), b"+", &[line]),
+            Change::Kept(line) => out.all(None, b" ", &[line]),
+        }
+    }
     out.all(None, b" ", below);
     out.bytes
+}
+
+/// What becomes of a line.
+enum Change<'a> {
+    Removed(&'a [u8]),
+    Added(&'a [u8]),
+    Kept(&'a [u8]),
+}
+
+/// Lines made others, with as many kept as can be; where there are very many, none is.
+fn changes<'a>(old: &[&'a [u8]], new: &[&'a [u8]]) -> Vec<Change<'a>> {
+    const MOST: usize = 1_000_000;
+    let width = new.len() + 1;
+    // At (i, j): how many lines can be kept of those from i and from j on.
+    let mut kept = vec![0u32; if old.len().saturating_mul(width) > MOST { 0 } else { (old.len() + 1) * width }];
+    if !kept.is_empty() {
+        for i in (0..old.len()).rev() {
+            for j in (0..new.len()).rev() {
+                let here = kept[(i + 1) * width + j + 1] + 1;
+                kept[i * width + j] = if old[i] == new[j] { here } else { kept[(i + 1) * width + j].max(kept[i * width + j + 1]) };
+            }
+        }
+    }
+    let at = |i: usize, j: usize| kept.get(i * width + j).copied().unwrap_or(0);
+    let (mut i, mut j, mut changes) = (0, 0, vec![]);
+    while i < old.len() || j < new.len() {
+        if i < old.len() && j < new.len() && at(i, j) > 0 && old[i] == new[j] {
+            changes.push(Change::Kept(old[i]));
+            (i, j) = (i + 1, j + 1);
+        } else if i < old.len() && (j == new.len() || at(i + 1, j) >= at(i, j + 1)) {
+            changes.push(Change::Removed(old[i]));
+            i += 1;
+        } else {
+            changes.push(Change::Added(new[j]));
+            j += 1;
+        }
+    }
+    changes
 }
 
 /// Lines with their LF; the last may have none.

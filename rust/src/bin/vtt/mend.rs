@@ -47,15 +47,17 @@ fn lines(span: LineSpan) -> String {
 pub fn find(name: &str, file: &File, which: &Which) -> Result<usize, Failure> {
     match which {
         Which::Number(number) => {
-            let number = usize::try_from(*number).unwrap_or(usize::MAX);
-            file.cue(number).map(|_| number).map_err(|_| refusals::no_such_cue(name, file, &format!("there is no cue {number}")))
+            let there = usize::try_from(*number).ok().filter(|number| file.cue(*number).is_ok());
+            there.ok_or_else(|| {
+                refusals::no_such_cue(name, file, &about(*number, "there is no cue", "there is no cue with so great a number"))
+            })
         }
         Which::Line(line) => {
             let holds = |cue: &Cue<&str>| (cue.lines.first..cue.lines.first + cue.lines.count).contains(line);
             file.cues().position(|cue| holds(&cue)).ok_or_else(|| {
                 let near = file.cues().enumerate().min_by_key(|(_, cue)| distance(cue.lines, *line));
                 let hint = near.map_or(String::new(), |(number, cue)| format!(", the nearest is cue {number} ({})", lines(cue.lines)));
-                refusals::no_such_cue(name, file, &format!("no cue has line {line}{hint}"))
+                refusals::no_such_cue(name, file, &(about(*line, "no cue has line", "no cue has a line with so great a number") + &hint))
             })
         }
         Which::Identifier(identifier) => {
@@ -70,6 +72,14 @@ pub fn find(name: &str, file: &File, which: &Which) -> Result<usize, Failure> {
                 }
             }
         }
+    }
+}
+
+/// A sentence about a number of the command line. One too great for the machine was cut there, and is not told.
+fn about(number: u64, of_it: &str, of_a_great_one: &str) -> String {
+    match number {
+        u64::MAX => of_a_great_one.into(),
+        _ => format!("{of_it} {number}"),
     }
 }
 

@@ -148,7 +148,8 @@ pub fn of_text(name: &str, bytes: &[u8]) -> Option<Failure> {
         0 => "a NUL",
         _ => "a byte that is no UTF-8",
     };
-    let (line, column) = line_and_column(before, before.len());
+    let before = before.replace("\r\n", "\n").replace('\r', "\n");
+    let (line, column) = line_and_column(&before, before.len());
     let number = Refusal::NotPlain { place: place as u64 }.number();
     Some(Failure::refused(format!("{name}:{line}:{column}"), number, format!("the new text holds {what}, which a cue cannot have")))
 }
@@ -174,6 +175,7 @@ mod tests {
         let told = |bytes: &[u8]| of_text("t", bytes).map(|failure| failure.message);
         assert_eq!(told("ä\nb".as_bytes()), None);
         assert_eq!(told(b""), None);
+        assert!(told(b"a\rb\r\nc\xFFd").is_some_and(|message| message.starts_with("t:3:2: refused 3: ")));
         assert!(told(b"a\nbc\xFFd").is_some_and(|message| message.starts_with("t:2:3: refused 3: ")));
         assert!(told(b"a\0\xFF").is_some_and(|message| message.starts_with("t:1:2: refused 3: ") && message.contains("NUL")));
     }

@@ -200,7 +200,9 @@ impl<'a> Search<'a> {
         let mut alone = None;
         for (index, line) in raw_lines(raw).enumerate() {
             let number = index as u64 + 1;
-            let column = |place: usize| Some(String::from_utf8_lossy(&raw[line.start..line.start + place]).chars().count() as u64 + 1);
+            // A byte order mark is in no column.
+            let from = if index == 0 && raw.starts_with(b"\xEF\xBB\xBF") { 3 } else { line.start };
+            let column = |place: usize| Some(String::from_utf8_lossy(&raw[from..line.start + place]).chars().count() as u64 + 1);
             if let Some(place) = raw[line.clone()].iter().position(|byte| *byte == 0) {
                 self.warnings.add(Kind::Nul, number, column(place), || "a NUL stands here".into());
             }
@@ -303,8 +305,10 @@ impl<'a> Search<'a> {
         remembered(&mut self.effects, word, probes::effect)
     }
 
-    /// Tags and escapes. A tag goes from `<` to the next `>`, whatever is in it; an escape from `&` over letters and digits.
+    /// Tags and escapes. A tag goes from `<` to the next `>`, whatever is in it; an escape from `&` over letters and digits, at least two of them, as in
+    /// `&lt;`: what stands in "R&D;" is none.
     fn text(&mut self, cue: &Cue<&'a str>) {
+        const SHORTEST: usize = 2;
         let text = cue.text;
         let mut place = Place::of(text, timing_line(cue) + 1);
         let mut next = 0;
@@ -314,7 +318,8 @@ impl<'a> Search<'a> {
                 let name = rest[1..].find(|c: char| !c.is_ascii_alphanumeric() && c != '#').map_or(rest.len(), |end| end + 1);
                 let ended = rest[name..].starts_with(';');
                 next = at + name + ended as usize;
-                let unread = name > 1 && if ended { !probes::escape_is_read(&rest[..=name]) } else { self.lacks_its_end(&rest[..name]) };
+                let unread =
+                    name > SHORTEST && if ended { !probes::escape_is_read(&rest[..=name]) } else { self.lacks_its_end(&rest[..name]) };
                 if unread {
                     let (line, column) = place.to(at);
                     let end = if ended { "" } else { ", for it has no semicolon" };
