@@ -3,7 +3,7 @@
 use std::collections::HashMap;
 use std::ffi::{OsStr, OsString};
 use std::os::unix::ffi::{OsStrExt, OsStringExt};
-use std::path::PathBuf;
+use std::path::{Path, PathBuf};
 
 /// What is asked for.
 #[derive(Debug, PartialEq, Eq)]
@@ -233,8 +233,16 @@ fn command(name: Name, mut sorted: Sorted) -> Result<Command, String> {
     }
 }
 
+/// A file by its name, which has at least one character.
+fn named(word: OsString) -> Result<PathBuf, String> {
+    match word.is_empty() {
+        true => Err("the name of a file is empty".into()),
+        false => Ok(word.into()),
+    }
+}
+
 /// Is standard input meant, or standard output.
-pub fn is_standard(file: &PathBuf) -> bool {
+pub fn is_standard(file: &Path) -> bool {
     file.as_os_str() == "-"
 }
 
@@ -265,7 +273,7 @@ impl Sorted {
         if self.plain.is_empty() {
             return Err("a file is missing; - is standard input".into());
         }
-        let files: Vec<PathBuf> = std::mem::take(&mut self.plain).into_iter().map(PathBuf::from).collect();
+        let files = std::mem::take(&mut self.plain).into_iter().map(named).collect::<Result<Vec<PathBuf>, String>>()?;
         if files.iter().filter(|file| is_standard(file)).count() > 1 {
             return Err("standard input can be read once only".into());
         }
@@ -309,7 +317,7 @@ impl Sorted {
 
     fn changes(&mut self) -> Result<Changes, String> {
         let given = self.word("--text")?.map(Text::Given);
-        let from_file = self.values.remove("--text-file").map(|file| Text::File(file.into()));
+        let from_file = self.values.remove("--text-file").map(named).transpose()?.map(Text::File);
         if given.is_some() && from_file.is_some() {
             return Err("--text and --text-file cannot both be given".into());
         }
@@ -327,7 +335,7 @@ impl Sorted {
     }
 
     fn output(&mut self) -> Result<Output, String> {
-        let file = self.values.remove("--output").map(PathBuf::from);
+        let file = self.values.remove("--output").map(named).transpose()?;
         let (in_place, diff, backup) = (self.flag("--in-place"), self.flag("--diff"), self.flag("--backup"));
         if (file.is_some() as u8) + (in_place as u8) + (diff as u8) > 1 {
             return Err("-o, --in-place and --diff exclude one another".into());
@@ -451,6 +459,10 @@ mod tests {
             &["mend", "-", "0", "--start", "1", "--in-place"],
             &["mend", "-", "0", "--text-file", "-"],
             &["rewrite", "--in-place", "a", "-"],
+            &["list", ""],
+            &["check", "a", ""],
+            &["plain", "a", "-o", ""],
+            &["mend", "a", "0", "--text-file", ""],
         ] {
             assert!(parsed(line).is_err(), "{line:?}");
         }

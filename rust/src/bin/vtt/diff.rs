@@ -23,7 +23,7 @@ pub fn unified(name: &str, old: &[u8], new: &[u8]) -> Vec<u8> {
     );
     let mut out = Shown { bytes: vec![], terminal: screen::is_terminal() };
     // As `diff` does, a tab ends a name that has a space, so that `patch` finds it.
-    let end = if name.contains(' ') { "\t" } else { "" };
+    let end = if name.contains(' ') && !screen::is_terminal() { "\t" } else { "" };
     out.put(None, format!("--- {name}{end}\n").as_bytes());
     out.put(None, format!("+++ {name}{end}\n").as_bytes());
     out.put(Some(Colour::Cyan), head.as_bytes());

@@ -9,7 +9,7 @@ use std::path::{Path, PathBuf};
 
 /// How a file is called in messages.
 pub fn name(file: &Path) -> String {
-    if file.as_os_str() == "-" {
+    if is_standard(file) {
         "standard input".into()
     } else {
         file.display().to_string()
@@ -20,7 +20,7 @@ pub fn name(file: &Path) -> String {
 pub fn read(file: &Path) -> Result<Vec<u8>, Failure> {
     let most = spatzenherd::MAX_FILE as u64 + 1;
     let mut bytes = vec![];
-    let got = if file.as_os_str() == "-" {
+    let got = if is_standard(file) {
         std::io::stdin().take(most).read_to_end(&mut bytes)
     } else {
         File::open(file).and_then(|open| open.take(most).read_to_end(&mut bytes))

@@ -305,43 +305,47 @@ impl<'a> Search<'a> {
         remembered(&mut self.effects, word, probes::effect)
     }
 
-    /// Tags and escapes. A tag goes from `<` to the next `>`, whatever is in it; an escape from `&` over letters and digits, at least two of them, as in
-    /// `&lt;`: what stands in "R&D;" is none.
+    /// Tags and escapes.
     fn text(&mut self, cue: &Cue<&'a str>) {
-        const SHORTEST: usize = 2;
         let text = cue.text;
         let mut place = Place::of(text, timing_line(cue) + 1);
         let mut next = 0;
         while let Some(at) = text[next..].find(['<', '&']).map(|at| next + at) {
             let rest = &text[at..];
-            if rest.starts_with('&') {
-                let name = rest[1..].find(|c: char| !c.is_ascii_alphanumeric() && c != '#').map_or(rest.len(), |end| end + 1);
-                let ended = rest[name..].starts_with(';');
-                next = at + name + ended as usize;
-                let unread =
-                    name > SHORTEST && if ended { !probes::escape_is_read(&rest[..=name]) } else { self.lacks_its_end(&rest[..name]) };
-                if unread {
-                    let (line, column) = place.to(at);
-                    let end = if ended { "" } else { ", for it has no semicolon" };
-                    self.warnings.add(Kind::EscapeNotRead, line, column, || format!("{} is not read{end}", shown(&text[at..next])));
-                }
-                continue;
-            }
-            let Some(end) = rest.find('>') else {
+            let (length, found) = if rest.starts_with('<') { self.tag(rest) } else { self.escape(rest) };
+            next = at + length;
+            if let Some((kind, what)) = found {
                 let (line, column) = place.to(at);
-                self.warnings.add(Kind::TagOpen, line, column, || format!("no > stands after {}", shown(rest)));
-                return;
-            };
-            let tag = &rest[..=end];
-            next = at + tag.len();
-            let (kind, what) = match remembered(&mut self.tags, tag, probes::tag) {
-                Tag::Read => continue,
-                Tag::Unknown => (Kind::TagUnknown, "is no tag of WebVTT"),
-                Tag::OverLimit => (Kind::TimestampLimit, "has hours above 99,999"),
-            };
-            let (line, column) = place.to(at);
-            self.warnings.add(kind, line, column, || format!("{} {what}", shown(tag)));
+                self.warnings.add(kind, line, column, || format!("{} {what}", shown(&rest[..length])));
+            }
         }
+    }
+
+    /// The tag that begins here: how long it is, and what is wrong with it. It goes from `<` to the next `>`, whatever is in it.
+    fn tag(&mut self, rest: &'a str) -> (usize, Option<(Kind, &'static str)>) {
+        let Some(end) = rest.find('>') else { return (rest.len(), Some((Kind::TagOpen, "has no > after it"))) };
+        let found = match remembered(&mut self.tags, &rest[..=end], probes::tag) {
+            Tag::Read => None,
+            Tag::Unknown => Some((Kind::TagUnknown, "is no tag of WebVTT")),
+            Tag::OverLimit => Some((Kind::TimestampLimit, "has hours above 99,999")),
+        };
+        (end + 1, found)
+    }
+
+    /// The escape that begins here: how long it is, and what is wrong with it. It goes from `&` over letters and digits, at least two of them as in
+    /// `&lt;`, to a semicolon; what stands in "R&D;" is none.
+    fn escape(&self, rest: &'a str) -> (usize, Option<(Kind, &'static str)>) {
+        const SHORTEST: usize = 3;
+        let name = 1 + rest[1..].find(|c: char| !c.is_ascii_alphanumeric() && c != '#').unwrap_or(rest.len() - 1);
+        let ended = rest[name..].starts_with(';');
+        let length = name + ended as usize;
+        let escape = &rest[..length];
+        let found = match ended {
+            _ if name < SHORTEST => None,
+            true => (!probes::escape_is_read(escape)).then_some("is not read"),
+            false => self.lacks_its_end(escape).then_some("is not read, for it has no semicolon"),
+        };
+        (length, found.map(|what| (Kind::EscapeNotRead, what)))
     }
 
     /// Would an escape be read if a semicolon stood after it.
