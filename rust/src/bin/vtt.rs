@@ -23,7 +23,7 @@ use std::path::{Path, PathBuf};
 use std::process::ExitCode;
 use vtt::arguments::{parse, Command, Output};
 use vtt::failure::{Failure, DONE, MISUSED};
-use vtt::{check, files, help, list, mend, refusals, screen, tree};
+use vtt::{check, files, help, list, mend, refusals, screen, tree, warnings};
 
 fn main() -> ExitCode {
     let status = match parse(std::env::args_os().skip(1)) {
@@ -90,6 +90,10 @@ fn rewrite_one(file: &Path, output: &Output, quiet: bool) -> Result<(), Failure>
     let raw = files::read(file)?;
     let read = spatzenherd::File::read(&raw).map_err(|refusal| refusals::of_reading(&name, &raw, &refusal))?;
     let new = read.write().map_err(|refusal| refusals::of_writing(&name, &read, &refusal))?;
+    let lost = warnings::failed_timing_lines(&read).count();
+    if lost > 0 && !quiet {
+        screen::tell(&format!("{name}: note: blocks whose timing line is not read are left out: {lost}; vtt check says where"));
+    }
     let Output::InPlace { backup } = output else {
         return files::put_out(output, &new).map(|_| ());
     };

@@ -173,3 +173,15 @@ fn a_pipe_gets_no_colours() {
         assert_eq!(crate::tools::finished(command, b"").text(), LISTED, "{name}");
     }
 }
+
+/// A block whose timing line is not read is no cue, and is not in a rewritten file: that is told.
+#[test]
+fn what_a_rewritten_file_lacks_is_told() {
+    let folder = Folder::new("rewritten-lacks");
+    let old = "WEBVTT\n\n00:01,000 --> 00:02.000\nlost\n\n00:00:03.000 --> 00:00:04.000\nkept\n";
+    folder.write("a.vtt", old);
+    let done = folder.vtt(["rewrite", "a.vtt"]);
+    assert_eq!((done.status, done.out.as_slice()), (0, &b"WEBVTT\n\n00:00:03.000 --> 00:00:04.000\nkept\n"[..]));
+    assert_eq!(done.err, "a.vtt: note: blocks whose timing line is not read are left out: 1; vtt check says where\n");
+    assert_eq!(folder.vtt(["rewrite", "a.vtt", "--quiet"]).err, "");
+}

@@ -248,7 +248,7 @@ fn long_files_of_one_thing() {
 fn many_cues_in_one_of_many_regions() {
     let folder = Folder::new("odd-regions");
     let regions: String = (0..40_000).map(|number| format!("REGION\nid:{number}\n\n")).collect();
-    folder.write("a.vtt", format!("WEBVTT\n\n{regions}{}", "00:01.000 --> 00:02.000 region:39999\n\n".repeat(100_000)));
-    within(Duration::from_secs(3), &folder, &["list", "a.vtt"]);
-    within(Duration::from_secs(3), &folder, &["check", "a.vtt"]);
+    folder.write("a.vtt", format!("WEBVTT\n\n{regions}{}", "00:01.000 --> 00:02.000 region:39999\n\n".repeat(200_000)));
+    within(Duration::from_secs(8), &folder, &["list", "a.vtt"]);
+    within(Duration::from_secs(8), &folder, &["check", "a.vtt"]);
 }

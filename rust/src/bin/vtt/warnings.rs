@@ -161,7 +161,9 @@ pub fn of(raw: &[u8], file: &File, all: bool) -> Warnings {
         warnings: Warnings { all, ..Warnings::default() },
     };
     search.bytes(raw);
-    search.failed_timing_lines();
+    for (number, line) in failed_timing_lines(file) {
+        search.warnings.add(Kind::TimingLine, number, None, || format!("{} is not read as a timing line", shown(line)));
+    }
     let mut after_last = 0;
     for cue in file.cues() {
         search.above(&cue, after_last == cue.lines.first);
@@ -188,6 +190,14 @@ struct Search<'a> {
 /// The timing line's number: the cue's first line, or the one after its identifier.
 fn timing_line(cue: &Cue<&str>) -> u64 {
     cue.lines.first + !cue.identifier.is_empty() as u64
+}
+
+/// Lines with an arrow that begin no cue, with their numbers. Every line with an arrow after the first line of a file is a block's timing line, so
+/// what is no cue's has failed.
+pub fn failed_timing_lines(file: &File) -> impl Iterator<Item = (u64, &str)> {
+    let mut good = file.cues().map(|cue| timing_line(&cue)).peekable();
+    let lines = file.plain_text().split('\n').enumerate().skip(1).map(|(index, line)| (index as u64 + 1, line));
+    lines.filter(|(_, line)| line.contains("-->")).filter(move |(number, _)| good.next_if_eq(number).is_none())
 }
 
 impl<'a> Search<'a> {
@@ -217,18 +227,6 @@ impl<'a> Search<'a> {
         }
         if let Some(number) = alone {
             self.warnings.add(Kind::CrAlone, number, None, || "this line, the first of its kind, ends with CR alone".into());
-        }
-    }
-
-    /// Lines with an arrow that begin no cue. Every line with an arrow after the first line of a file is a block's timing line, so what is no
-    /// cue's has failed.
-    fn failed_timing_lines(&mut self) {
-        let good: HashSet<u64> = self.file.cues().map(|cue| timing_line(&cue)).collect();
-        for (index, line) in self.lines.iter().enumerate().skip(1).filter(|(_, line)| line.contains("-->")) {
-            let number = index as u64 + 1;
-            if !good.contains(&number) {
-                self.warnings.add(Kind::TimingLine, number, None, || format!("{} is not read as a timing line", shown(line)));
-            }
         }
     }
 
