@@ -59,7 +59,7 @@ const KINDS: [(&str, &str, &str); 18] = [
     ("region-cancelled", "the cue has no region", "Firefox, WebKit and Chromium with regions keep it: the caption stands elsewhere"),
     ("tag-unknown", "it is left out, and the text in it stays", "Chromium and FFmpeg do the same"),
     ("tag-open", "all from < to the cue's end is a tag and not shown", "Chromium does the same"),
-    ("timestamp-limit", "it is a timestamp; here the cue\'s text is refused by 5", "Chromium reads it"),
+    ("timestamp-limit", "it is a timestamp; here the cue's text is refused by 5", "Chromium reads it"),
     (
         "escape-not-read",
         "HTML's escapes are read; here only &amp; &lt; &gt; &lrm; &rlm; &nbsp; are",
@@ -262,7 +262,7 @@ impl<'a> Search<'a> {
             let spaced = |c: Option<char>| c.map_or(true, |c| c.is_ascii_whitespace());
             if !spaced(line[..at].chars().last()) || !spaced(line[at + 3..].chars().next()) {
                 let (number, column) = place.to(at);
-                self.warnings.add(Kind::ArrowWithoutSpace, number, column, || "no space stands on both sides of the arrow".into());
+                self.warnings.add(Kind::ArrowWithoutSpace, number, column, || "a space is missing beside the arrow".into());
             }
         }
         if let Some(at) = line.find('\x0C') {
