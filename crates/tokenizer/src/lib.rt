@@ -1,5 +1,9 @@
 // The tokens of a cue text, each as parts of the text. Any text and any place in it are taken.
+pub mod reader;
+
 use format::settings::Span;
+pub use reader::Tokenizer;
+pub use reader::token_at;
 use values::bytes::ByteKind;
 use values::bytes::is_digit;
 use values::bytes::past;
@@ -8,7 +12,8 @@ ghost use Prim.Native.Nat.{_+_, _≤_};
 ghost use lib.ListN.{length, drop};
 ghost use Rattle.format.specs.Texts.{run};
 ghost use Rattle.format.specs.CueText.{blank};
-ghost use Rattle.tokenizer.specs.Tags.{inName, startIs, StartAt, tagIs, TagAt, stepIs, StepAt};
+ghost use Rattle.tokenizer.specs.Tags.{inName, startIs, tagIs, stepIs};
+ghost use Rattle.tokenizer.specs.Reader.{movedTo};
 
 pub enum Token {
     // Text with its escapes.
@@ -76,8 +81,7 @@ fn name_end(s: &[u8], at: usize, stops: bool) -> usize
 // The start tag of what stands from one place up to another.
 fn start_tag(text: &[u8], from: usize, to: usize) -> Token
     requires { ⌜ (from ≤ to) × (to ≤ length (now text)) ⌝ }
-    ensures is { λ r. ⌜ r ≡ startIs (now (text .entry)) from to ⌝ }
-    ensures at { λ r. ⌜ StartAt (now (text .entry)) from to r ⌝ }
+    ensures { λ r. ⌜ r ≡ startIs (now (text .entry)) from to ⌝ }
 {
     let body = &text[..to];
     let classes = name_end(body, from, true);
@@ -98,8 +102,7 @@ fn start_tag(text: &[u8], from: usize, to: usize) -> Token
 // The tag of what stands between `<` and `>`.
 fn tag(text: &[u8], from: usize, to: usize) -> Token
     requires { ⌜ (from ≤ to) × (to ≤ length (now text)) ⌝ }
-    ensures is { λ r. ⌜ r ≡ tagIs (now (text .entry)) from to ⌝ }
-    ensures at { λ r. ⌜ TagAt (now (text .entry)) from to r ⌝ }
+    ensures { λ r. ⌜ r ≡ tagIs (now (text .entry)) from to ⌝ }
 {
     if to <= from {
         return start_tag(text, from, to);
@@ -115,9 +118,8 @@ fn tag(text: &[u8], from: usize, to: usize) -> Token
 }
 
 // The token that begins at a place. A tag ends at the first `>`, text at the next `<`.
-pub fn step(text: &[u8], at: usize) -> Stepped
-    ensures is { λ r. ⌜ r ≡ stepIs (now (text .entry)) at ⌝ }
-    ensures at { λ r. ⌜ StepAt (now (text .entry)) at r ⌝ }
+fn step(text: &[u8], at: usize) -> Stepped
+    ensures { λ r. ⌜ r ≡ stepIs (now (text .entry)) at ⌝ }
 {
     if text.len() <= at {
         return Stepped::None;
@@ -139,4 +141,14 @@ pub fn step(text: &[u8], at: usize) -> Stepped
         };
     }
     Stepped::Next { token, next: to }
+}
+
+// Where the next token begins after a step; where there is none, the same place.
+fn place_after(stepped: Stepped, at: usize) -> usize
+    ensures { λ r. ⌜ r ≡ movedTo stepped at ⌝ }
+{
+    match stepped {
+        Stepped::None => at,
+        Stepped::Next { token: _, next } => next,
+    }
 }

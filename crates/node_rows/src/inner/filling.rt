@@ -182,7 +182,7 @@ pub fn fill(text: &[u8], room: &mut [u8], rows: &mut [NodeRow])
         current: 0,
     };
     loop {
-        let step = tokenizer::step(text, at);
+        let step = tokenizer::token_at(text, at);
         let Stepped::Next { token, next } = step else {
             return;
         };

@@ -142,7 +142,7 @@ fn measure(text: &[u8], words: &mut [u64]) -> Need
         used: 0,
     };
     loop {
-        let stepped = tokenizer::step(text, at);
+        let stepped = tokenizer::token_at(text, at);
         let Stepped::Next { token, next } = stepped else {
             return Need::Sizes {
                 count: m.count,

@@ -6,7 +6,7 @@ use lib.ListN.{take}
 use lib.Seq.{length-take-le}
 use Rattle.laws.proofs.Runs.{run-at}
 use Rattle.tokenizer.specs.Tags.{inName}
-use Rattle.tokenizer.proofs.Spans.{start-at, start-found}
+use Rattle.tokenizer.proofs.Spans.{start-found}
 use Rattle.tokenizer.proofs.start_tag.Statement.{statement}
 use Rattle.tokenizer.proofs.start_tag.Tie as tie
 
@@ -30,12 +30,9 @@ name-end-requires-2 c κs =
 returns : tie.Need-returns
 returns c =
     let at = c .before .before .before .before in
-    let s = at .args .text .now in
     let n = c .before .name-end in
-    let w = c .name-end2 in (
-      start-found s (at .args .from) (at .args .to) (n .result) (w .result) (n .ensures) (w .ensures),
-      start-at s (at .args .from) (at .args .to) (n .result) (w .result) (at .pre .0) (at .pre .1) (n .ensures) (w .ensures),
-    )
+    let w = c .name-end2 in
+    start-found (at .args .text .now) (at .args .from) (at .args .to) (n .result) (w .result) (n .ensures) (w .ensures)
 
 pub start-tag-spec : {M : Type 1} → statement M
 start-tag-spec = tie.close (tie.spec slice-aggregate-body name-end-requires name-end-requires-2 returns)

@@ -1,19 +1,17 @@
 -- `tokenizer::step` meets its contract.
 use Prim.Native.Nat.{_+_}
 use mathlib.Core.Path.{_≡_, sym, ap, _∙_}
-use native.Mathlib.Omega.{arith}
-use lib.ListN.{length, drop-of-length-le}
-use lib.Seq.{drop-drop}
+use lib.ListN.{length}
 use borrow.Author.Tests.{lt-ltb, le-ltb}
 use borrow.Author.Needs.{needs}
 use Rattle.tokenizer.specs.Tags.{afterTag}
 use Rattle.tokenizer.specs.declared.Stepped.the-variants as Stepped
-use Rattle.tokenizer.proofs.Spans.{string-at, tag-bounds, tag-at, step-none, step-string, step-tag}
+use Rattle.tokenizer.proofs.Spans.{tag-bounds, step-none, step-string, step-tag}
 use Rattle.tokenizer.proofs.step.Statement.{statement}
 use Rattle.tokenizer.proofs.step.Tie as tie
 
 returns : tie.Need-returns
-returns c = let at = c .before .before in (step-none (at .args .text .now) (at .args .at) (c .if1 .taken), c .if1 .taken)
+returns c = let at = c .before .before in step-none (at .args .text .now) (at .args .at) (c .if1 .taken)
 
 shared-slice-read-if2 : tie.Need-shared-slice-read-if2
 shared-slice-read-if2 c = search needs
@@ -24,11 +22,7 @@ past-requires c κs = search needs
 returns-2 : tie.Need-returns-2
 returns-2 c =
     let at = c .before .before .before .before .before in
-    let s = at .args .text .now in
-    let inside = c .before .before .before .if1 .left in (
-      step-string s (at .args .at) inside (c .before .if2 .taken) (c .past .result) (c .past .ensures),
-      string-at s (at .args .at) inside (c .past .result) (c .before .if2 .taken) (c .past .ensures),
-    )
+    step-string (at .args .text .now) (at .args .at) (c .before .before .before .if1 .left) (c .before .if2 .taken) (c .past .result) (c .past .ensures)
 
 add-from : tie.Need-add-from
 add-from c = search needs
@@ -51,30 +45,20 @@ returns-3 c =
     let to = c .before .before .past2 .result in
     let inside = c .before .before .before .before .before .if1 .left in
     let opens = c .before .before .before .if2 .left in
-    let ran = c .before .before .past2 .ensures in
     let token = c .before .tag .result in
-    let next : afterTag s to ≡ to + 1 = rw (lt-ltb to (length s) (c .if3 .taken)) in (
-      ap (Stepped.Next token) (sym next) ∙ step-tag s (at .args .at) inside opens to ran token (c .before .tag .ensures .0),
-      tag-at s (at .args .at) inside to (to + 1) opens ran token (c .before .tag .ensures .1) (omega arith) (omega arith) (omega arith) (λ l. omega arith)
-          (drop-drop 1 to s),
-    )
+    let next : afterTag s to ≡ to + 1 = rw (lt-ltb to (length s) (c .if3 .taken)) in
+    ap (Stepped.Next token) (sym next) ∙ step-tag s (at .args .at) inside opens to (c .before .before .past2 .ensures) token (c .before .tag .ensures)
 
 returns-4 : tie.Need-returns-4
 returns-4 c =
     let at = c .before .before .before .before .before .before .before in
     let s = at .args .text .now in
     let to = c .before .before .past2 .result in
-    let none = drop-of-length-le s (c .if3 .left) in
     let inside = c .before .before .before .before .before .if1 .left in
     let opens = c .before .before .before .if2 .left in
-    let ran = c .before .before .past2 .ensures in
     let token = c .before .tag .result in
-    let bounds = tag-bounds s (at .args .at) inside to 0 opens ran in
-    let next : afterTag s to ≡ to = rw (le-ltb to (length s) (c .if3 .left)) in (
-      ap (Stepped.Next token) (sym next) ∙ step-tag s (at .args .at) inside opens to ran token (c .before .tag .ensures .0),
-      tag-at s (at .args .at) inside to to opens ran token (c .before .tag .ensures .1) (omega arith) (bounds .1) (omega (arith, bounds .0)) (λ l. absurd (omega arith))
-          (rw none),
-    )
+    let next : afterTag s to ≡ to = rw (le-ltb to (length s) (c .if3 .left)) in
+    ap (Stepped.Next token) (sym next) ∙ step-tag s (at .args .at) inside opens to (c .before .before .past2 .ensures) token (c .before .tag .ensures)
 
 pub step-spec : {M : Type 1} → statement M
 step-spec =

@@ -1,7 +1,7 @@
 -- `tokenizer::tag` meets its contract.
 use mathlib.Core.Path.{sym, _∙_}
 use borrow.Author.Needs.{needs}
-use Rattle.tokenizer.proofs.Spans.{end-at, timestamp-at, other-at, nothing-at, tag-none, tag-end, tag-time, tag-start}
+use Rattle.tokenizer.proofs.Spans.{tag-none, tag-end, tag-time, tag-start}
 use Rattle.tokenizer.proofs.tag.Statement.{statement}
 use Rattle.tokenizer.proofs.tag.Tie as tie
 
@@ -12,11 +12,7 @@ returns : tie.Need-returns
 returns c =
     let at = c .before .before .before in
     let s = at .args .text .now in
-    let short = c .before .if1 .taken in
-    let e = c .start-tag .ensures in (
-      e .0 ∙ tag-none s (at .args .from) (at .args .to) short,
-      record { is = e .1 .is ∙ sym (nothing-at s (at .args .from) (at .args .to) short); parts = e .1 .parts },
-    )
+    c .start-tag .ensures ∙ tag-none s (at .args .from) (at .args .to) (c .before .if1 .taken)
 
 shared-slice-read-b : tie.Need-shared-slice-read-b
 shared-slice-read-b c = search needs
@@ -29,7 +25,7 @@ returns-2 c =
     let at = c .before .before .before .before in
     let s = at .args .text .now in
     let some = c .before .before .if1 .left in
-    (tag-end s (at .args .from) (at .args .to) some (c .if2 .taken), end-at s (at .args .from) (at .args .to) some (at .pre .1) (c .if2 .taken))
+    tag-end s (at .args .from) (at .args .to) some (c .if2 .taken)
 
 is-digit-requires : tie.Need-is-digit-requires
 is-digit-requires c κs = search needs
@@ -41,7 +37,7 @@ returns-3 c =
     let some = c .before .before .before .before .if1 .left in
     let other = c .before .before .if2 .left in
     let d = sym (c .before .is-digit .ensures) ∙ c .if3 .taken in
-    (tag-time s (at .args .from) (at .args .to) some other d, timestamp-at s (at .args .from) (at .args .to) some (at .pre .1) other d)
+    tag-time s (at .args .from) (at .args .to) some other d
 
 start-tag-requires-2 : tie.Need-start-tag-requires-2
 start-tag-requires-2 c κs = search needs
@@ -53,10 +49,7 @@ returns-4 c =
     let some = c .before .before .before .before .before .if1 .left in
     let other = c .before .before .before .if2 .left in
     let d = sym (c .before .before .is-digit .ensures) ∙ c .before .if3 .left in
-    let e = c .start-tag2 .ensures in (
-      e .0 ∙ tag-start s (at .args .from) (at .args .to) some other d,
-      record { is = e .1 .is ∙ sym (other-at s (at .args .from) (at .args .to) some (at .pre .1) other d); parts = e .1 .parts },
-    )
+    c .start-tag2 .ensures ∙ tag-start s (at .args .from) (at .args .to) some other d
 
 pub tag-spec : {M : Type 1} → statement M
 tag-spec =

@@ -22,8 +22,8 @@ loop-holds c =
     let at = c .before .before in
     (filling-starts (at .args .text .now) (at .args .room .now) (at .args .rows .now) (at .pre .1), refl, refl)
 
-step-requires : tie.Need-step-requires Inv-loop μ-loop
-step-requires c κs = search needs
+token-at-requires : tie.Need-token-at-requires Inv-loop μ-loop
+token-at-requires c κs = search needs
 
 enum-known-step : tie.Need-enum-known-step Inv-loop μ-loop
 enum-known-step c = search needs
@@ -41,7 +41,7 @@ returns : tie.Need-returns Inv-loop μ-loop
 returns c =
     let at = c .before .before .before .before .before .before in
     let f = c .before .before .before .loop .inv .0 in
-    let h = rw (c .enum-told .given .1) at (c .before .before .step .ensures .1) in (
+    let h = rw (c .enum-told .given .1) at (c .before .before .token-at .ensures .1) in (
       filling-room (at .args .text .now) (at .args .room .now) (at .args .rows .now) f h,
       filling-table (at .args .text .now) (at .args .room .now) (at .args .rows .now) f h,
     )
@@ -51,8 +51,8 @@ turn-requires c κs =
     let at = c .before .before .before .before .before .before .before .before .before in
     let s = at .args .text .now in
     let loop = c .before .before .before .before .before .before .loop in
-    let told = c .before .before .before .step2 .given in
-    let t = rw (told .1) at (c .before .before .before .before .before .step .ensures .1) in (
+    let told = c .before .before .before .step .given in
+    let t = rw (told .1) at (c .before .before .before .before .before .token-at .ensures .1) in (
       wider s (told .0 .0) 0 (loop .at) (told .0 .1 .0) (length s) (omega arith) (t .inside) (omega arith) (t .parts),
       at .pre .0,
       filling-fits s (at .args .room .now) (at .args .rows .now) (loop .inv .0) (tokenIs s (told .0 .0)) (told .0 .1 .0) (t .first) (t .inside) (at .pre .3) (at .pre .2) (at .pre .0),
@@ -63,8 +63,8 @@ loop-less c =
     let at = c .before .before .before .before .before .before .before .before .before .before .before .before .before in
     let s = at .args .text .now in
     let loop = c .before .before .before .before .before .before .before .before .before .before .loop in
-    let told = c .before .before .before .before .before .before .before .step2 .given in
-    let t = rw (told .1) at (c .before .before .before .before .before .before .before .before .before .step .ensures .1) in
+    let told = c .before .before .before .before .before .before .before .step .given in
+    let t = rw (told .1) at (c .before .before .before .before .before .before .before .before .before .token-at .ensures .1) in
     omega (arith, t .moves, t .inside)
 
 loop-again : tie.Need-loop-again Inv-loop μ-loop
@@ -72,8 +72,8 @@ loop-again c =
     let at = c .before .before .before .before .before .before .before .before .before .before .before .before .before in
     let s = at .args .text .now in
     let loop = c .before .before .before .before .before .before .before .before .before .before .loop in
-    let told = c .before .before .before .before .before .before .before .step2 .given in
-    let t = rw (told .1) at (c .before .before .before .before .before .before .before .before .before .step .ensures .1) in
+    let told = c .before .before .before .before .before .before .before .step .given in
+    let t = rw (told .1) at (c .before .before .before .before .before .before .before .before .before .token-at .ensures .1) in
     let turn = c .before .before .before .turn in (
       filling-turned s (at .args .room .now) (at .args .rows .now) (loop .inv .0) (tokenIs s (told .0 .0)) (told .0 .1 .0) (t .first) (t .inside) (at .pre .3) (at .pre .2) (turn .result) _ _ (turn .ensures),
       turn .kept .1 .1 .1 .0 ∙ loop .inv .1,
@@ -87,7 +87,7 @@ fill-spec =
     Inv-loop
     μ-loop
     loop-holds
-    step-requires
+    token-at-requires
     enum-known-step
     enum-told
     same-length

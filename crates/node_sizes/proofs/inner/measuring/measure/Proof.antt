@@ -25,8 +25,8 @@ loop-holds c =
     let at = c .before .before .before in
     reached-start (at .args .text .now) (at .args .words .now) (c .empty .result) (c .empty .ensures (at .args .words .now))
 
-step-requires : tie.Need-step-requires Inv-loop μ-loop
-step-requires c κs = search needs
+token-at-requires : tie.Need-token-at-requires Inv-loop μ-loop
+token-at-requires c κs = search needs
 
 enum-known-stepped : tie.Need-enum-known-stepped Inv-loop μ-loop
 enum-known-stepped c = search needs
@@ -42,7 +42,7 @@ returns c =
     let at = c .before .before .before in
     let args = at .before .before .before .before .args in
     reached-end (args .text .now) (args .words .now) (at .loop .at) (at .loop .m) (at .loop .words) (at .loop .inv)
-    (rw (c .enum-told .given .1) at (c .before .before .step .ensures .1))
+    (rw (c .enum-told .given .1) at (c .before .before .token-at .ensures .1))
 
 -- the token that was found
 module _ (c : tie.After-stepped Inv-loop μ-loop) where
@@ -62,7 +62,7 @@ module _ (c : tie.After-stepped Inv-loop μ-loop) where
   next = c .stepped .given .0 .1 .0
 
   found : TokenAt s (at .loop .at) token next
-  found = rw (c .stepped .given .1) at (c .before .before .step .ensures .1)
+  found = rw (c .stepped .given .1) at (c .before .before .token-at .ensures .1)
 
 turn-requires : tie.Need-turn-requires Inv-loop μ-loop
 turn-requires c κs =
@@ -111,7 +111,7 @@ measure-spec =
     μ-loop
     empty-requires
     loop-holds
-    step-requires
+    token-at-requires
     enum-known-stepped
     enum-told
     same-length
