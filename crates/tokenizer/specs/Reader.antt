@@ -1,4 +1,5 @@
--- A reader over a cue text: where it stands after a token, and the tokens that it hands out one after the other.
+-- Document 01, Cue text: "a reader that stands over one cue's text and a place in it". Where it stands after a token, and the tokens that it hands
+-- out one after the other; that these are the text's tokens by document 000, section 6.4, is `handed-out` of `proofs/HandedOut.antt`.
 use Prim.Native.Nat.{ℕ, zero, suc}
 use mathlib.Core.List.{List, [], _∷_}
 use Rattle.format.specs.CueText as CueText
