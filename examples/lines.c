@@ -4,32 +4,16 @@
 #include <stdio.h>
 #include <stdlib.h>
 
+#include "lent.h"
 #include "spatzenherd.h"
-
-#define LIMIT 16777216
-
-static void *lend(size_t length) {
-    void *memory = malloc(length + 1); /* never NULL for no bytes */
-    if (memory == NULL) {
-        fprintf(stderr, "no memory\n");
-        exit(2);
-    }
-    return memory;
-}
 
 int main(int argc, char **argv) {
     if (argc != 2) {
         fprintf(stderr, "usage: lines FILE\n");
         return 2;
     }
-    FILE *file = fopen(argv[1], "rb");
-    if (file == NULL) {
-        perror(argv[1]);
-        return 2;
-    }
-    uint8_t *raw = lend(LIMIT + 1); /* one byte more than a file may have, so that a longer one is refused by 1 */
-    size_t length = fread(raw, 1, LIMIT + 1, file);
-    fclose(file);
+    size_t length;
+    uint8_t *raw = whole_file(argv[1], &length);
 
     uint8_t *text = lend(3 * length);
     uint64_t values[8] = {0};

@@ -5,32 +5,16 @@
 #include <stdlib.h>
 #include <string.h>
 
+#include "lent.h"
 #include "spatzenherd.h"
-
-#define LIMIT 16777216
-
-static uint8_t *lend(size_t length) {
-    uint8_t *room = malloc(length + 1); /* never NULL for no bytes */
-    if (room == NULL) {
-        fprintf(stderr, "no memory\n");
-        exit(2);
-    }
-    return room;
-}
 
 int main(int argc, char **argv) {
     if (argc != 6) {
         fprintf(stderr, "usage: replace FILE CUE START END TEXT\n");
         return 2;
     }
-    FILE *file = fopen(argv[1], "rb");
-    if (file == NULL) {
-        perror(argv[1]);
-        return 2;
-    }
-    uint8_t *raw = lend(LIMIT + 1); /* one byte more than a file may have, so that a longer one is refused by 1 */
-    size_t length = fread(raw, 1, LIMIT + 1, file);
-    fclose(file);
+    size_t length;
+    uint8_t *raw = whole_file(argv[1], &length);
 
     const uint8_t *text = (const uint8_t *)argv[5];
     uint64_t row[SPATZ_NEW_CUE_WORDS] = {0}; /* 0 is the opening value of every choice but these two */

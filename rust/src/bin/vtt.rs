@@ -62,8 +62,7 @@ fn run(command: Command) -> Result<u8, Failure> {
 }
 
 fn read(file: &Path) -> Result<spatzenherd::File, Failure> {
-    let raw = files::read(file)?;
-    spatzenherd::File::read(&raw).map_err(|refusal| refusals::of_reading(&files::name(file), &raw, &refusal))
+    refusals::accepted(&files::name(file), &files::read(file)?)
 }
 
 /// Each file in the one written form. A file that is refused does not keep the others from being rewritten.
@@ -88,7 +87,7 @@ fn rewrite(all: &[PathBuf], output: &Output, quiet: bool) -> Result<u8, Failure>
 fn rewrite_one(file: &Path, output: &Output, quiet: bool) -> Result<(), Failure> {
     let name = files::name(file);
     let raw = files::read(file)?;
-    let read = spatzenherd::File::read(&raw).map_err(|refusal| refusals::of_reading(&name, &raw, &refusal))?;
+    let read = refusals::accepted(&name, &raw)?;
     let new = read.write().map_err(|refusal| refusals::of_writing(&name, &read, &refusal))?;
     let lost = warnings::failed_timing_lines(&read).count();
     if lost > 0 && !quiet {

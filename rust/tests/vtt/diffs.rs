@@ -1,5 +1,6 @@
 //! One cue of a whole episode mended: what `cmp`, `diff` and `patch` say of it, and what `vtt mend --diff` prints.
-use crate::tools::{found, output_of, Folder, Random};
+use crate::random::Random;
+use crate::tools::{found, output_of, Folder};
 
 /// An episode of 60 KB with CR LF ends, comments, NUL and broken bytes, some cues with no empty line between them, and no line end at its end.
 fn episode() -> Vec<u8> {
@@ -206,7 +207,7 @@ fn a_diff_is_that_of_diff() {
 fn diffs_of_random_texts() {
     let folder = Folder::new("diff-random");
     let theirs = found("diff");
-    let mut random = Random(1);
+    let mut random = Random::new(1);
     for _ in 0..40 {
         let mut text = || (0..1 + random.below(9)).map(|_| ["a", "b", "c", "d"][random.below(4)]).collect::<Vec<_>>().join("\n");
         let (old, new) = (text(), text());

@@ -14,6 +14,10 @@ mod killed;
 mod mending;
 mod odd_files;
 mod published;
+// The numbers of the other tests; not all that they draw is drawn here.
+#[allow(dead_code)]
+#[path = "../outside/random.rs"]
+mod random;
 mod readme;
 mod refusals;
 mod standard_input;

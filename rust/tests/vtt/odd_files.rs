@@ -1,7 +1,8 @@
 //! Files of every kind, whole and damaged, long and empty: an answer or a refusal for each, never a crash, and the same answer from each command.
 use crate::documents::lines_of;
 use crate::published::runs;
-use crate::tools::{fields, found, within, Folder, Random, FIRST_LINE, LINE_COUNT, TEXT};
+use crate::random::Random;
+use crate::tools::{fields, found, within, Folder, FIRST_LINE, LINE_COUNT, TEXT};
 use std::time::Duration;
 
 const MOST: usize = 16_777_216;
@@ -140,7 +141,7 @@ fn public_files() {
 /// Damaged copies of public files, 75 of each seed.
 fn damaged_files(seed: u64) {
     let files = runs("lists");
-    let mut random = Random(seed);
+    let mut random = Random::new(seed);
     let copies = (0..75).map(|copy| {
         let run = &files[random.below(files.len())];
         (format!("seed {seed}, copy {copy} of {}", run.name), damaged(&run.input, &mut random))

@@ -1,4 +1,4 @@
-//! What the tests share: a folder for each, the command run in it, and random numbers.
+//! What the tests share: a folder for each, and the command run in it.
 use std::ffi::OsStr;
 use std::io::Write;
 use std::path::{Path, PathBuf};
@@ -166,25 +166,6 @@ pub fn within(limit: Duration, folder: &Folder, words: &[&str]) -> Done {
 /// A file of the repository, from its root.
 pub fn of_repository(path: &str) -> PathBuf {
     Path::new(env!("CARGO_MANIFEST_DIR")).join("..").join(path)
-}
-
-/// Random numbers from a seed: the same seed gives the same files on every machine.
-pub struct Random(pub u64);
-
-impl Random {
-    /// The next number of splitmix64.
-    pub fn word(&mut self) -> u64 {
-        self.0 = self.0.wrapping_add(0x9E37_79B9_7F4A_7C15);
-        let mut z = self.0;
-        z = (z ^ (z >> 30)).wrapping_mul(0xBF58_476D_1CE4_E5B9);
-        z = (z ^ (z >> 27)).wrapping_mul(0x94D0_49BB_1331_11EB);
-        z ^ (z >> 31)
-    }
-
-    /// A number below a bound.
-    pub fn below(&mut self, bound: usize) -> usize {
-        (self.word() % bound.max(1) as u64) as usize
-    }
 }
 
 /// One line of `vtt list`, as its fields.

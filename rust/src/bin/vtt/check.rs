@@ -2,7 +2,7 @@
 use super::failure::{Failure, DONE, REFUSED};
 use super::screen::{self, harmless, painted, Colour};
 use super::{files, refusals, warnings};
-use spatzenherd::{Cue, File, Refusal, Region};
+use spatzenherd::{Cue, Refusal, Region};
 use std::path::PathBuf;
 
 /// What was found in all files.
@@ -68,11 +68,11 @@ fn counted(count: u64, one: &str, many: &str) -> String {
 
 /// The lines of one file.
 fn one(name: &str, raw: &[u8], every: bool, quiet: bool, sums: &mut Sums) -> String {
-    let file = match File::read(raw) {
+    let file = match refusals::accepted(name, raw) {
         Ok(file) => file,
-        Err(refusal) => {
+        Err(failure) => {
             sums.refused += 1;
-            return format!("{}\n", refusals::of_reading(name, raw, &refusal).message);
+            return format!("{}\n", failure.message);
         }
     };
     let regions: Vec<Region<&str>> = file.regions().collect();

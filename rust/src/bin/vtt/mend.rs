@@ -11,7 +11,7 @@ pub fn run(path: &Path, which: &Which, changes: &Changes, output: &Output, quiet
     let name = files::name(path);
     let given = Given::of(changes)?;
     let raw = files::read(path)?;
-    let file = File::read(&raw).map_err(|refusal| refusals::of_reading(&name, &raw, &refusal))?;
+    let file = refusals::accepted(&name, &raw)?;
     let number = find(&name, &file, which)?;
     let old = file.cue(number).map_err(|_| refusals::no_such_cue(&name, &file, &format!("there is no cue {number}")))?;
     let new = given.over(&file, &old);

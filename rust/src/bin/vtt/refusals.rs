@@ -4,6 +4,11 @@ use super::list::time;
 use super::raw_lines::line_and_column;
 use spatzenherd::{File, List, NewCue, Refusal};
 
+/// The lists of a file, or why it is refused.
+pub fn accepted(name: &str, raw: &[u8]) -> Result<File, Failure> {
+    File::read(raw).map_err(|refusal| of_reading(name, raw, &refusal))
+}
+
 /// A file that cannot be read.
 pub fn of_reading(name: &str, raw: &[u8], refusal: &Refusal) -> Failure {
     let number = refusal.number();
