@@ -1,5 +1,6 @@
-//! `vtt`: one command over the proved library, for whole episodes: list, mend, check, rewrite. What is here is arguments, files and words; every
-//! rule of WebVTT is the library's, and where a command must know one (is this a time, has this setting an effect), it asks the library.
+//! `vtt`: one command over the proved library, for whole episodes: list, mend, check, rewrite. What is here is arguments, files and words, tested and
+//! not proved. The rules of WebVTT are the library's, and where a command must know one (is this a time, has this setting an effect), it asks the
+//! library; the few that it knows itself are listed in `docs/DECISIONS.md`.
 
 /// The parts of the command.
 mod vtt {
