@@ -12,6 +12,9 @@ use format::Rewriting;
 use format::Tree;
 use format::Writing;
 use format::rows::RegionIndex;
+use format::times::Stamp;
+use format::times::TimeFault;
+use format::times::TimingLine;
 ghost use mathlib.Core.Path.{_≡_};
 ghost use mathlib.Core.List.{[], _∷_};
 ghost use Rattle.format.specs.Answers.{refusalNumber, returned, withValues};
@@ -21,6 +24,7 @@ ghost use Rattle.format.specs.Parts.{partAnswerIs};
 ghost use Rattle.format.specs.Reading.{readingIs, fileReadingIs};
 ghost use Rattle.format.specs.Replacing.{replacingIs};
 ghost use Rattle.format.specs.Rewriting.{rewritingIs};
+ghost use Rattle.format.specs.TellingTimes.{faultNumber, stampAnswer, timingLineAnswer};
 ghost use Rattle.format.specs.Trees.{treeIs};
 ghost use Rattle.format.specs.Writing.{writingIs};
 
@@ -102,6 +106,55 @@ pub fn region_found(answer: RegionFound, values: &mut [u64; 8]) -> u64
         }
         RegionIndex::At(i) => {
             put_3(values, 1, i as usize, seen);
+            0
+        }
+    }
+}
+
+// The number of a step that failed.
+fn fault_number(fault: TimeFault) -> usize
+    ensures { λ r. ⌜ r ≡ faultNumber fault ⌝ }
+{
+    match fault {
+        TimeFault::DigitMissing => 1,
+        TimeFault::WrongDigitCount => 2,
+        TimeFault::ColonMissing => 3,
+        TimeFault::FullStopMissing => 4,
+        TimeFault::Over59 => 5,
+        TimeFault::ArrowMissing => 6,
+        TimeFault::SomethingAfter => 7,
+    }
+}
+
+pub fn time(answer: Stamp, values: &mut [u64; 8]) -> u64
+    ensures number { λ r. ⌜ r ≡ refusalNumber (stampAnswer answer) ⌝ }
+    ensures values { λ _. ⌜ now (values .exit) ≡ withValues 0 (returned (stampAnswer answer)) (now (values .entry)) ⌝ }
+{
+    match answer {
+        Stamp::Bad { fault, at } => {
+            put_2(values, fault_number(fault), at);
+            0
+        }
+        Stamp::Over { next: _ } => 5,
+        Stamp::At { ms, next } => {
+            put_3(values, 0, next, ms as usize);
+            0
+        }
+    }
+}
+
+pub fn timing_line(answer: TimingLine, values: &mut [u64; 8]) -> u64
+    ensures number { λ r. ⌜ r ≡ refusalNumber (timingLineAnswer answer) ⌝ }
+    ensures values { λ _. ⌜ now (values .exit) ≡ withValues 0 (returned (timingLineAnswer answer)) (now (values .entry)) ⌝ }
+{
+    match answer {
+        TimingLine::Bad { fault, at } => {
+            put_2(values, fault_number(fault), at);
+            0
+        }
+        TimingLine::Over => 5,
+        TimingLine::Good(line) => {
+            put_4(values, 0, line.next, line.start as usize, line.end as usize);
             0
         }
     }

@@ -3,7 +3,6 @@ use Prim.Native.Nat.{ℕ, _+_, _-_, _≤_, _<_, min}
 use mathlib.Core.Path.{_≡_, refl, sym, ap, _∙_}
 use mathlib.Core.Bool.{Bool, true, false, _&&_, true≢false}
 use mathlib.Core.List.{List, [], _∷_}
-use mathlib.Core.Option.{Option, none, some}
 use native.Mathlib.Omega.{arith}
 use lib.Dec.{eqb, ltb}
 use lib.ListN.{length, take, drop, length-drop}
@@ -14,15 +13,16 @@ use Rattle.format.specs.Texts.{Part, startsWith, same, isEmpty, all, run}
 use Rattle.format.specs.CueSettings.{spanIs}
 use Rattle.format.specs.Tokens.{Flagged}
 use Rattle.format.specs.RegionSettings.{RegionValues}
-use Rattle.format.specs.TimingLines.{Timing}
+use Rattle.format.specs.Times.{Result, failed, got, value}
+use Rattle.format.specs.TimingLines.{Timing, timedLine, timingLine}
 use Rattle.format.specs.Lists.{regionOf, isWord}
 use Rattle.laws.proofs.Tests.{by-test}
 use Rattle.laws.proofs.Runs.{run-length, all-run, run-not-all}
 use Rattle.values.specs.Tokens.{spanTo, partOf}
 use Rattle.values.proofs.NumberLaws.{is-empty-not}
-use Rattle.timing.specs.TimingLines.{timingLineIs, lineKind}
-use Rattle.timing.specs.declared.timing_line.TimingLine.{TimingLine}
-use Rattle.timing.specs.declared.timing_line.TimingLine.the-variants as TimingLine
+use Rattle.timing.specs.TimingLines.{timingLineIs, timedLineIs, lineKind}
+use Rattle.format.specs.declared.times.TimingLine.{TimingLine}
+use Rattle.format.specs.declared.times.TimingLine.the-variants as TimingLine
 use Rattle.format.specs.declared.settings.Span.{Span}
 use Rattle.regions.specs.Changes.{takenIs}
 use Rattle.blocks.specs.Items.{part, afterLine, afterSpan, cueWith, itemIs, kindIs, timedIs, timedKind, regionItem}
@@ -50,9 +50,13 @@ unfolding spanIs isEmpty
 after-span s e to h l =
     by-test (eqb e to) (λ y. rw y) (λ n. rw n (span-part s (e + 1) to (omega (arith, eqb-false e to n)) l))
 
-pub timed-is : (id text : Part) (o : Option Timing) → timedIs (spanIs id) (spanIs text) (timingLineIs o) ≡ itemIs (cueWith id text o)
-timed-is id text none = refl
-timed-is id text (some t) = by-test (t .over) (λ y. rw y) (λ n. rw n)
+pub timed-is : (id text line : Part) → timedIs (spanIs id) (spanIs text) (timedLineIs line) ≡ itemIs (cueWith id text (timingLine line))
+unfolding timedLineIs timingLine value
+timed-is id text line = go (timedLine line)
+  where
+    go : (r : Result Timing) → timedIs (spanIs id) (spanIs text) (timingLineIs (length (line .bytes)) r) ≡ itemIs (cueWith id text (value r))
+    go (failed f rest) = refl
+    go (got t rest) = by-test (t .over) (λ y. rw y) (λ n. rw n)
 
 pub region-is : (t : Flagged RegionValues) → regionItem (takenIs t) ≡ itemIs (regionOf t)
 unfolding regionOf
@@ -96,6 +100,6 @@ some-bytes (b ∷ x) e = omega arith
 
 -- a timed block is of the kind of its line
 pub kind-timed : (id text : Span) (l : TimingLine) → kindIs (timedIs id text l) ≡ timedKind (lineKind l)
-kind-timed id text TimingLine.Bad = refl
+kind-timed id text (TimingLine.Bad f at) = refl
 kind-timed id text TimingLine.Over = refl
 kind-timed id text (TimingLine.Good t) = refl

@@ -10,21 +10,22 @@ use lib.ListN.{length, getD}
 use borrow.Author.Tests.{ne-eqb}
 use Rattle.format.specs.Bytes.{digit, white}
 use Rattle.format.specs.Texts.{Part, run, pastRun, isEmpty, startsWith}
-use Rattle.format.specs.Times.{failed, onGot, timestamp}
-use Rattle.format.specs.TimingLines.{timings, timingOf, timingLine}
+use Rattle.format.specs.Times.{failed, value, onGot, timestamp}
+use Rattle.format.specs.TimingLines.{timings, timingOf, timedLine, timingLine}
+use Rattle.format.specs.declared.times.TimeFault.the-variants as Fault
 use Rattle.format.specs.Lists.{nothing, isWord}
 use Rattle.laws.proofs.Tests.{by-test}
 use Rattle.blocks.specs.Items.{part, definitionWith, NoWord}
 use Rattle.blocks.proofs.BlockLaws.{slice-first}
 
 -- no whitespace is skipped, and no digit stands there
-no-times : (b : ℕ) (x : List ℕ) → digit b ≡ false → white b ≡ false → timings (b ∷ x) ≡ failed
+no-times : (b : ℕ) (x : List ℕ) → digit b ≡ false → white b ≡ false → timings (b ∷ x) ≡ failed Fault.DigitMissing (b ∷ x)
 unfolding timings timestamp onGot pastRun run isEmpty
 no-times b x d w = rw (w, d)
 
 -- the part of no bytes, and one whose first byte begins neither a time nor whitespace, are no timing lines
 pub empty-line : (s : List ℕ) (a b : ℕ) → a ≡ b → timingLine (part s a b) ≡ none
-unfolding timingLine timingOf timings timestamp onGot pastRun run isEmpty
+unfolding timingLine timedLine timingOf value timings timestamp onGot pastRun run isEmpty
 empty-line s a b e = let n : b - a ≡ 0 = omega arith in rw n
 
 pub other-line :
@@ -34,8 +35,8 @@ pub other-line :
     → digit (getD s a 0) ≡ false
     → white (getD s a 0) ≡ false
     → timingLine (part s a b) ≡ none
-unfolding timingLine timingOf
-other-line s a b k l d w = ap (timingOf (part s a b)) (ap timings (slice-first s a b (omega arith) k) ∙ no-times (getD s a 0) (part s (a + 1) b .bytes) d w)
+unfolding timingLine timedLine timingOf value
+other-line s a b k l d w = ap (λ r. value (timingOf (part s a b) r)) (ap timings (slice-first s a b (omega arith) k) ∙ no-times (getD s a 0) (part s (a + 1) b .bytes) d w)
 
 -- both words begin with another byte
 pub other-word :

@@ -19,8 +19,8 @@ use Rattle.format.specs.declared.settings.Span.{Span}
 use Rattle.values.specs.Tokens.{spanTo}
 use Rattle.timing.specs.declared.timing_line.LineKind.{LineKind}
 use Rattle.timing.specs.declared.timing_line.LineKind.the-variants as LineKind
-use Rattle.timing.specs.declared.timing_line.TimingLine.{TimingLine}
-use Rattle.timing.specs.declared.timing_line.TimingLine.the-variants as TimingLine
+use Rattle.format.specs.declared.times.TimingLine.{TimingLine}
+use Rattle.format.specs.declared.times.TimingLine.the-variants as TimingLine
 use Rattle.regions.specs.declared.RegionTaken.{RegionTaken}
 use Rattle.blocks.specs.Collecting.{lineEnds, linesFrom, isEnd, WhyIs}
 use Rattle.blocks.specs.declared.collecting.Stop.{Stop}
@@ -135,7 +135,7 @@ abbrev pub afterSpan : ℕ → ℕ → Span
 afterSpan e to = cond (eqb e to) noSpan (spanTo (e + 1) to)
 
 abbrev pub timedIs : Span → Span → TimingLine → Made.Item
-timedIs id text TimingLine.Bad = Read.Nothing
+timedIs id text (TimingLine.Bad f at) = Read.Nothing
 timedIs id text TimingLine.Over = Read.Over
 timedIs id text (TimingLine.Good t) =
     Read.Cue (record { id = id; start = t .start; end = t .end; settings = t .settings; region = t .region; text = text })

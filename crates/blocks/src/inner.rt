@@ -5,9 +5,9 @@ use crate::items::Item;
 use crate::items::ItemKind;
 use crate::items::kind;
 use format::settings::Span;
+use format::times::TimingLine;
 use regions::RegionTaken;
 use timing::timing_line::LineKind;
-use timing::timing_line::TimingLine;
 use values::bytes::ByteKind;
 ghost use mathlib.Core.Path.{_≡_};
 ghost use mathlib.Core.Bool.{true};
@@ -17,7 +17,7 @@ ghost use lib.ListN.{length};
 ghost use Rattle.format.specs.Lists.{isWord};
 ghost use Rattle.format.specs.TimingLines.{timingLine};
 ghost use Rattle.values.specs.Tokens.{partOf};
-ghost use Rattle.timing.specs.TimingLines.{timingLineIs, lineKind};
+ghost use Rattle.timing.specs.TimingLines.{timedLineIs, lineKind};
 ghost use Rattle.blocks.specs.Items.{part, afterSpan, timedIs, regionItem, definitionIs, meaningAt, itemIs, kindIs, timedKind, NoWord, GivesNothing, PlacesIn};
 
 // The lines after one that ends at `end`, up to the block's end.
@@ -33,10 +33,10 @@ fn after_line(end: usize, to: usize) -> Span
 
 // The cue whose timing line stands from one place up to another.
 fn timed_item(s: &[u8], from: usize, to: usize, id: Span, text: Span) -> Item
-    ensures { λ r. ⌜ r ≡ timedIs id text (timingLineIs (timingLine (partOf (now (s .entry)) from to))) ⌝ }
+    ensures { λ r. ⌜ r ≡ timedIs id text (timedLineIs (partOf (now (s .entry)) from to)) ⌝ }
 {
     match timing::line_of(s, from, to) {
-        TimingLine::Bad => Item::Nothing,
+        TimingLine::Bad { fault: _, at: _ } => Item::Nothing,
         TimingLine::Over => Item::Over,
         TimingLine::Good(read) => {
             let settings = read.settings;
@@ -166,7 +166,7 @@ pub fn item_at(s: &[u8], from: usize, stop: Stop, seen: bool) -> Item
 
 // Is it a cue whose timing line stands from one place up to another.
 fn timed_kind(s: &[u8], from: usize, to: usize) -> ItemKind
-    ensures { λ r. ⌜ r ≡ timedKind (lineKind (timingLineIs (timingLine (partOf (now (s .entry)) from to)))) ⌝ }
+    ensures { λ r. ⌜ r ≡ timedKind (lineKind (timedLineIs (partOf (now (s .entry)) from to))) ⌝ }
 {
     match timing::kind_of(s, from, to) {
         LineKind::Bad => ItemKind::Nothing,

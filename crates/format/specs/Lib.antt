@@ -27,9 +27,10 @@ pub mod Contents
 -- Lists to text (20). `Writable`: the tests, in their order. `Written`: the one written form.
 pub mod Writable
 pub mod Written
--- What each call answers, and what lent memory holds after it (30). `Answers`: numbers and values. `Converting`, `Reading`, `Parts`, `LookingUp`,
--- `Writing`, `Rewriting`: one call each; `Writing` has demand 2's round trip. `Replacing`: raw lines, a cue's own bytes, the new file, and demand 3.
+-- What each call answers, and what lent memory holds after it (30). `Answers`: numbers and values. `TellingTimes`: a time by itself, or why and where
+-- it fails. `Converting`, `Reading`, `Parts`, `LookingUp`, `Writing`, `Rewriting`: one call each; `Writing` has demand 2's round trip. `Replacing`: raw lines, a cue's own bytes, the new file, and demand 3.
 pub mod Answers
+pub mod TellingTimes
 pub mod Converting
 pub mod Reading
 pub mod Parts

@@ -1,11 +1,11 @@
 -- A cue's timing line: source document 000, section 6.3, "collect WebVTT cue timings and settings", by its steps.
 use Prim.Native.Nat.{ℕ, _+_, _-_}
 use mathlib.Core.Bool.{Bool, _||_}
-use mathlib.Core.Option.{Option, none, some}
+use mathlib.Core.Option.{Option}
 use lib.ListN.{length}
 use Rattle.format.specs.Bytes.{white, hyphen, greater}
 use Rattle.format.specs.Texts.{Part, pastRun}
-use Rattle.format.specs.Times.{Result, failed, got, Step, _>>=_, _>>_, expect, Time, timestamp, milliseconds, overHours}
+use Rattle.format.specs.Times.{Result, failed, got, value, Step, _>>=_, _>>_, expect, Time, timestamp, milliseconds, overHours}
 use Rattle.format.specs.CueSettings.{CueSettings, cueSettings}
 use Rattle.format.specs.Tokens.{Flagged}
 use Rattle.format.specs.declared.settings.Settings.{Settings}
@@ -60,10 +60,14 @@ withSettings t s =
       over = overHours (t .start) || overHours (t .end) || s .over;
     }
 
-unfoldable pub timingOf : Part → Result Times → Option Timing
-timingOf line failed = none
+unfoldable pub timingOf : Part → Result Times → Result Timing
+timingOf line (failed f rest) = failed f rest
 timingOf line (got t rest) =
-    some (withSettings t (cueSettings (record { place = line .place + (length (line .bytes) - length rest); bytes = rest })))
+    got (withSettings t (cueSettings (record { place = line .place + (length (line .bytes) - length rest); bytes = rest }))) rest
+
+-- the line, with the step that fails told: the settings never do, and what is left is what comes after the times
+unfoldable pub timedLine : Part → Result Timing
+timedLine line = timingOf line (timings (line .bytes))
 
 unfoldable pub timingLine : Part → Option Timing
-timingLine line = timingOf line (timings (line .bytes))
+timingLine line = value (timedLine line)

@@ -11,8 +11,7 @@ use Rattle.format.specs.Bytes.{ascii, fullStop}
 use Rattle.format.specs.Limits.{maxText}
 use Rattle.format.specs.Texts.{same, isEmpty, bytesAt}
 use Rattle.format.specs.Plain.{firstNotPlain}
-use Rattle.format.specs.Times.{Result, failed, got, Time, milliseconds, overHours}
-use Rattle.format.specs.Times as Times
+use Rattle.format.specs.Times.{value, Time, onlyTime, milliseconds, overHours}
 use Rattle.format.specs.CueText.{Token, stringToken, startTag, endTag, timestampTag, parted, cueTokens}
 use Rattle.format.specs.Rows.{word}
 use Rattle.format.specs.Answers.{Answer, accepted, refused, ifAccepted, placed}
@@ -88,14 +87,9 @@ unfoldable pub classString : List (List ℕ) → List ℕ
 classString [] = []
 classString (c ∷ cs) = cond (isEmpty c) (classString cs) (c ++ parted fullStop (classString cs))
 
--- "A timestamp tag must be a time and nothing else."
-unfoldable pub nothingAfter : Result Time → Option Time
-nothingAfter failed = none
-nothingAfter (got t []) = some t
-nothingAfter (got t (b ∷ s)) = none
-
+-- the time of a timestamp tag, if it is one
 unfoldable pub tagTime : List ℕ → Option Time
-tagTime value = nothingAfter (Times.timestamp value)
+tagTime text = value (onlyTime text)
 
 -- the value of a node that a start tag attaches: a voice and a language have the annotation, the others none
 unfoldable pub valueFor : NodeKind → List ℕ → List ℕ

@@ -5,6 +5,7 @@ pub mod kinds;
 pub mod regions;
 pub mod rows;
 pub mod settings;
+pub mod times;
 
 use rows::RegionIndex;
 

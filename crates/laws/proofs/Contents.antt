@@ -13,8 +13,8 @@ use Rattle.format.specs.Numbers.{percentage, LineNumber, lineNumber, overLine, 
 use Rattle.format.specs.Tokens.{inToken, onToken, beforeTokens, tokens, nameOf, valueOf, Flagged, folded}
 use Rattle.format.specs.CueSettings.{CueSettings, settingsAfter, isOver, cueChange, changed, cueSetting, cueSettings}
 use Rattle.format.specs.RegionSettings.{RegionValues, regionChange, regionAfter, overRegion, regionSetting, regionSettings}
-use Rattle.format.specs.Times.{Result, failed, got, milliseconds, overHours}
-use Rattle.format.specs.TimingLines.{Times, timings, withSettings, timingOf, timingLine}
+use Rattle.format.specs.Times.{Result, failed, got, value, milliseconds, overHours}
+use Rattle.format.specs.TimingLines.{Times, timings, withSettings, timingOf, timedLine, timingLine}
 use Rattle.format.specs.Lines.{join}
 use Rattle.format.specs.Blocks.{Line, linePart, holdsArrow, bytesOf, joined}
 use Rattle.format.specs.Lists.{Cue, Item, nothing, cue, style, region, cueOf, regionOf, isWord, definition, meaning, isCue, itemsFrom}
@@ -156,9 +156,9 @@ cueWith id t s text =
 
 cue-of :
     (id line : Part) (ls : List Line) (r : Result Times)
-    → bareItem (cueOf (bare id) (unplaced ls) (timingOf (bare line) r)) ≡ bareItem (cueOf id ls (timingOf line r))
-unfolding bareItem cueOf timingOf withSettings cueWith
-cue-of id line ls failed = refl
+    → bareItem (cueOf (bare id) (unplaced ls) (value (timingOf (bare line) r))) ≡ bareItem (cueOf id ls (value (timingOf line r)))
+unfolding bareItem cueOf value timingOf withSettings cueWith
+cue-of id line ls (failed f rest) = refl
 cue-of id line ls (got t rest) =
     let n = length (line .bytes) - length rest in
     ap (cueWith (id .bytes) t (bareTaken (cueSettings (record { place = 0 + n; bytes = rest })))) (joined-unplaced ls)
@@ -175,7 +175,7 @@ unfolding bareItem
 style-of p q e = ap (λ x. style (record { place = 0; bytes = x })) e
 
 meaning-bare : (seen : Bool) (b : List Line) → bareItem (meaning seen (unplaced b)) ≡ bareItem (meaning seen b)
-unfolding meaning timingLine definition
+unfolding meaning timingLine timedLine definition
 meaning-bare seen [] = refl
 meaning-bare seen (first ∷ []) = alike bareItem (holdsArrow (first .bytes)) (cue-of emptyPart (linePart first) [] (timings (first .bytes))) refl
 meaning-bare seen (first ∷ (second ∷ ls)) =

@@ -16,7 +16,11 @@ pub mod Parted
 pub mod Numbers
 pub mod Tokens
 pub mod Changes
+pub mod TimeSteps
+pub mod TimesBefore
+pub mod TimesUnchanged
 pub mod Standing
+pub mod TagTimes
 pub mod Contents
 pub mod LineNumbers
 pub mod Names

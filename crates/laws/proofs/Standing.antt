@@ -1,18 +1,18 @@
 -- Every part of a text's lists stands at its place in the text.
 use Prim.Native.Nat.{ℕ, suc, _+_, _-_, _<_}
 use mathlib.Core.Path.{_≡_, refl, sym, ap, subst, _∙_}
-use mathlib.Core.Bool.{Bool, true, false, cond, not, _||_, _&&_, false≢true}
+use mathlib.Core.Bool.{Bool, true, false, cond, _||_, _&&_, false≢true}
 use mathlib.Core.List.{List, [], _∷_, _++_, append-assoc}
 use mathlib.Core.Option.{Option, none, some, Option·elim}
 use native.Mathlib.Omega.{arith}
-use lib.Dec.{eqb, ltb}
-use lib.ListN.{length, take, drop, take-append-drop, length-append, length-drop}
+use lib.Dec.{ltb}
+use lib.ListN.{length, take, drop, length-append, length-drop}
 use borrow.Author.Tests.{ltb-true}
 use lib.Seq.{take-length, append-snoc, take-take, take-add, take-append-seam, drop-append-seam, drop-drop}
-use Rattle.format.specs.Bytes.{ascii, lf, white, digit, fullStop, hyphen, greater, colon, percent, comma}
+use Rattle.format.specs.Bytes.{ascii, lf, white, colon, percent, comma}
 use Rattle.format.specs.Limits.{maxLine}
-use Rattle.format.specs.Texts.{Part, emptyPart, isEmpty, same, endsWith, beforeFirst, run, pastRun, startsWith}
-use Rattle.format.specs.Numbers.{number, percentage, LineNumber, lineNumber, overLine, isNegative, millionths, lineCount}
+use Rattle.format.specs.Texts.{Part, emptyPart, isEmpty, same, endsWith, beforeFirst}
+use Rattle.format.specs.Numbers.{percentage, LineNumber, lineNumber, overLine, isNegative, millionths, lineCount}
 use Rattle.format.specs.Tokens.{inToken, onToken, beforeTokens, tokens, nameOf, valueOf, Flagged, folded}
 use Rattle.format.specs.CueSettings.{CueSettings, settingsAfter, lineAlign, lineAtPercentage, lineCounted, lineAligned, lineChange}
 use Rattle.format.specs.CueSettings.{positionAlign, positionAligned, positionChange, named, cueChange, changed, cueSetting, cueSettings}
@@ -25,16 +25,17 @@ use Rattle.format.specs.declared.settings.LineAlign.{LineAlign}
 use Rattle.format.specs.declared.settings.PositionAlign.{PositionAlign}
 use Rattle.format.specs.Tokens.{Flagged, unflagged, folded}
 use Rattle.format.specs.RegionSettings.{RegionValues, regionChange, regionSetting, regionSettings}
-use Rattle.format.specs.Times.{Result, failed, got, onGot, Step, _>>=_, holds, expect, hoursFirst, field, threeValues, inRange, lastSteps}
-use Rattle.format.specs.Times.{timestamp}
-use Rattle.format.specs.TimingLines.{skipWhite, arrow, Times, arrowAndEnd, timings, Timing, withSettings, timingOf, timingLine}
+use Rattle.format.specs.Times.{Result, failed, got, value}
+use Rattle.format.specs.TimingLines.{Times, timings, Timing, withSettings, timingOf, timedLine, timingLine}
+use Rattle.format.specs.declared.times.TimeFault.{TimeFault}
 use Rattle.format.specs.Lines.{afterLineEnds, join}
 use Rattle.format.specs.Blocks.{Line, linesAt, linePart, holdsArrow, Collecting, between, header, inside, stops, begin, goOn, collected, ended, next}
 use Rattle.format.specs.Blocks.{blocksFrom, afterSignature, blocks, bytesOf, joined}
 use Rattle.format.specs.Lists.{Cue, Item, nothing, cue, style, region, cueOf, regionOf, isWord, definition, meaning, isCue, itemsFrom}
 use Rattle.format.specs.Lists.{items, Lists, into, listed, lists}
 use Rattle.laws.proofs.Tests.{by-test}
-use Rattle.laws.proofs.Runs.{drop-take, pastRun-drop}
+use Rattle.laws.proofs.Runs.{drop-take}
+use Rattle.laws.proofs.TimeSteps.{Leaves, timing-steps}
 use Rattle.laws.proofs.Lines.{splits}
 use Rattle.laws.proofs.Tokens.{after-at}
 use Rattle.laws.proofs.Changes.{openingValues, name-after, id-after}
@@ -231,9 +232,9 @@ settings-signed s (t ∷ ts) h =
     settings-signed (record { value = r .value; over = s .over || r .over }) ts
     (changed-signed (cueChange t (s .value .settings)) (s .value .settings) (change-signed t (s .value .settings)) h)
 
-timing-signed : (line : Part) (t : Timing) (r : Result Times) → timingOf line r ≡ some t → Signed (t .settings .line .line)
-unfolding timingOf withSettings cueSettings
-timing-signed line t failed e = let z : _≡_ {A = ℕ} 0 1 = cc in absurd (omega arith)
+timing-signed : (line : Part) (t : Timing) (r : Result Times) → value (timingOf line r) ≡ some t → Signed (t .settings .line .line)
+unfolding value timingOf withSettings cueSettings
+timing-signed line t (failed f rest) e = let z : _≡_ {A = ℕ} 0 1 = cc in absurd (omega arith)
 timing-signed line t (got x rest) e =
     let q = line .place + (length (line .bytes) - length rest) in
     let left : Part = record { place = q; bytes = rest } in
@@ -258,114 +259,16 @@ unfolding regionSettings
 stands-region s p h =
     region-id (Stands s) (unflagged openingValues) (tokens (p .place) (p .bytes)) (stands-values s p h) (stands-empty s)
 
--- what a step leaves is the end of what it was given
-pub record End (s rest : List ℕ) : Type 0 where
-  pub gone : List ℕ
-  pub is : s ≡ gone ++ rest
-
-Leaves : {A : Type 0} → List ℕ → Result A → Type 0
-Leaves s failed = Unit
-Leaves s (got a rest) = End s rest
-
-record Keeps {A : Type 0} (m : Step A) : Type 0 where
-  at : (s : List ℕ) → Leaves s (m s)
-
-end-all : (s : List ℕ) → End s s
-end-all s = record { gone = []; is = refl }
-
-end-end : (s t u : List ℕ) → End s t → End t u → End s u
-end-end s t u a b =
-    record { gone = a .gone ++ b .gone; is = a .is ∙ ap (λ r. a .gone ++ r) (b .is) ∙ sym (append-assoc (a .gone) (b .gone) u) }
-
-end-run : (p : ℕ → Bool) (s : List ℕ) → End s (pastRun p s)
-end-run p s =
-    let n = length (run p s) in
-    record { gone = take n s; is = sym (take-append-drop n s) ∙ ap (λ r. take n s ++ r) (sym (pastRun-drop p s)) }
-
-leaves-end : {A : Type 0} (s t : List ℕ) (r : Result A) → End s t → Leaves t r → Leaves s r
-unfolding Leaves
-leaves-end s t failed a h = tt
-leaves-end s t (got x u) a h = end-end s t u a h
-
-on-got : {A B : Type 0} (s : List ℕ) (r : Result A) (f : A → Step B) → Leaves s r → ((a : A) → Keeps (f a)) → Leaves s (onGot r f)
-unfolding Leaves onGot
-on-got s failed f h k = tt
-on-got s (got a t) f h k = leaves-end s t (f a t) h (k a .at t)
-
-then : {A B : Type 0} {m : Step A} {f : A → Step B} → Keeps m → ((a : A) → Keeps (f a)) → Keeps (_>>=_ m f)
-then {m = m} {f = f} h k = record { at = λ s. on-got s (m s) f (h .at s) k }
-
-keeps-got : {A : Type 0} (a : A) → Keeps (got a)
-unfolding Leaves
-keeps-got a = record { at = λ s. end-all s }
-
-keeps-holds : (t : List ℕ → Bool) → Keeps (λ s. holds (t s) s)
-unfolding Leaves
-keeps-holds t = record { at = λ s. either (Leaves s) (t s) (end-all s) tt }
-
-expects : (c : ℕ) (s : List ℕ) → Leaves s (expect c s)
-unfolding Leaves expect
-expects c [] = tt
-expects c (b ∷ s) = either (Leaves (b ∷ s)) (eqb b c) (record { gone = b ∷ []; is = refl }) tt
-
-keeps-expect : (c : ℕ) → Keeps (expect c)
-keeps-expect c = record { at = expects c }
-
-keeps-past : {A : Type 0} (p : ℕ → Bool) (f : List ℕ → A) → Keeps (λ s. got (f s) (pastRun p s))
-unfolding Leaves
-keeps-past p f = record { at = end-run p }
-
-keeps-field : (c n : ℕ) → Keeps (field c n)
-unfolding field
-keeps-field c n =
-    then (keeps-expect c)
-    (λ a. then (keeps-past digit (run digit))
-    (λ ds. then (keeps-holds (λ s. eqb (length ds) n)) (λ a. keeps-got (number ds))))
-
-keeps-three : (first : List ℕ) (second : ℕ) → Keeps (threeValues first second)
-unfolding threeValues
-keeps-three first second = record {
-  at = λ s.
-      either (Leaves s) (hoursFirst first || startsWith (colon ∷ []) s)
-      (then (keeps-field colon 2)
-      (λ third. keeps-got (record { hours = number first; minutes = second; seconds = third; thousandths = 0 })) .at s)
-      (keeps-got (record { hours = 0; minutes = number first; seconds = second; thousandths = 0 }) .at s);
-}
-
-keeps-timestamp : Keeps timestamp
-unfolding timestamp lastSteps
-keeps-timestamp =
-    then (keeps-holds (λ s. not (isEmpty (run digit s)))) (λ a. then (keeps-past digit (run digit))
-    (λ first. then (keeps-field colon 2)
-    (λ second. then (keeps-three first second)
-    (λ t. then (keeps-field fullStop 3)
-    (λ fourth. then (keeps-holds (λ s. inRange t))
-    (λ a. keeps-got (record { hours = t .hours; minutes = t .minutes; seconds = t .seconds; thousandths = fourth })))))))
-
-keeps-white : Keeps skipWhite
-keeps-white = keeps-past white (λ s. tt)
-
-keeps-timings : Keeps timings
-unfolding timings arrowAndEnd arrow
-keeps-timings =
-    then keeps-white
-    (λ a. then keeps-timestamp
-    (λ start. then
-    (then keeps-white
-    (λ a. then (then (keeps-expect hyphen) (λ a. then (keeps-expect hyphen) (λ a. keeps-expect greater)))
-    (λ a. then keeps-white (λ a. keeps-timestamp))))
-    (λ end. keeps-got (record { start = start; end = end }))))
-
 -- a timing line's settings are the end of the line
 timing-of :
-    (s : List ℕ) (line : Part) (t : Timing) (r : Result Times)
-    → Leaves (line .bytes) r
+    (P : TimeFault → Type 0) (s : List ℕ) (line : Part) (t : Timing) (r : Result Times)
+    → Leaves P (line .bytes) r
     → Stands s line
-    → timingOf line r ≡ some t
+    → value (timingOf line r) ≡ some t
     → Stands s (t .region)
-unfolding Leaves timingOf withSettings
-timing-of s line t failed k h e = let z : _≡_ {A = ℕ} 0 1 = cc in absurd (omega arith)
-timing-of s line t (got x rest) k h e =
+unfolding value timingOf withSettings
+timing-of P s line t (failed f rest) k h e = let z : _≡_ {A = ℕ} 0 1 = cc in absurd (omega arith)
+timing-of P s line t (got x rest) k h e =
     let q = line .place + (length (line .bytes) - length rest) in
     let n : line .place + length (k .gone) ≡ q = omega (arith, ap length (k .is), length-append (k .gone) rest) in
     let left : Part = record { place = q; bytes = rest } in
@@ -375,8 +278,8 @@ timing-of s line t (got x rest) k h e =
     subst (λ u. Stands s (u .region)) f settled
 
 pub stands-timing : (s : List ℕ) (line : Part) (t : Timing) → Stands s line → timingLine line ≡ some t → Stands s (t .region)
-unfolding timingLine
-stands-timing s line t h e = timing-of s line t (timings (line .bytes)) (keeps-timings .at (line .bytes)) h e
+unfolding timingLine timedLine
+stands-timing s line t h e = timing-of _ s line t (timings (line .bytes)) (timing-steps .at (line .bytes)) h e
 
 -- lines that follow each other: from each of them on, they stand as one part
 abbrev pub Follow : List ℕ → List Line → Type 0
@@ -501,7 +404,7 @@ module _ (s : List ℕ) where
       → Stands s line
       → Follow s ls
       → ItemStands (cueOf id ls o)
-  unfolding cueOf timingLine
+  unfolding cueOf timingLine timedLine
   cue-stands id line ls none e i l h = tt
   cue-stands id line ls (some t) e i l h =
       record { id = i; text = follow-joined ls h; region = stands-timing s line t l e; line = timing-signed line t (timings (line .bytes)) e }

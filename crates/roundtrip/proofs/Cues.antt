@@ -26,8 +26,8 @@ use Rattle.format.specs.Rows.{cueEntry}
 use Rattle.format.specs.Writable.{unbroken, atMost100, lineFits, positionFits, isIndex, lastOfItsName, namesOf, cueTest1, cueTest2, cueTest3, cueTest4}
 use Rattle.format.specs.Writable.{cueTest5, cueTest6, cueTests, cueFails, regionTest1, regionTest2, regionTests, regionFails}
 use Rattle.format.specs.RegionSettings.{lastNamed}
-use Rattle.format.specs.Times.{got, onGot, expect}
-use Rattle.format.specs.TimingLines.{arrow, arrowAndEnd, timings, Timing, withSettings, timingOf, timingLine}
+use Rattle.format.specs.Times.{value, got, onGot, expect}
+use Rattle.format.specs.TimingLines.{arrow, arrowAndEnd, timings, Timing, withSettings, timingOf, timedLine, timingLine}
 use Rattle.format.specs.Contents.{CueContents, RegionContents, cueOfEntry, cueOfRow, regionOfRow}
 use Rattle.format.specs.declared.settings.Direction.{Direction}
 use Rattle.format.specs.declared.settings.Direction.the-variants as Direction
@@ -596,7 +596,7 @@ module _ (rs : List RegionContents) (c : CueContents) where
       → c .end < 360_000_000_000
       → Settable rs c
       → TimingRead rs c (timingLine (record { place = p; bytes = writtenTiming rs c }))
-  unfolding timingLine timingOf withSettings run digit
+  unfolding timingLine timedLine timingOf value withSettings run digit
   timing-read p l m h =
       let arrow = fromArrow (c .start) (c .end) settingsText in
       let u = time-read (c .end) settingsText m (spaces-stop (writtenSettings rs c)) in

@@ -1,119 +1,97 @@
 -- A timing line at a place of a slice: the arrow, the end time and the settings by the code's tests.
-use Prim.Native.Nat.{ℕ, suc, _+_, _-_, _≤_, _<_, min}
-use mathlib.Core.Path.{_≡_, refl, sym, ap, _∙_}
-use mathlib.Core.Bool.{Bool, false, cond, _||_}
+use Prim.Native.Nat.{ℕ, suc, _+_, _-_, _≤_}
+use mathlib.Core.Path.{_≡_, refl, sym, ap, subst, _∙_}
+use mathlib.Core.Bool.{Bool, true, false, cond, _||_}
 use mathlib.Core.List.{List, [], _∷_}
-use mathlib.Core.Option.{Option, none, some}
 use native.Mathlib.Omega.{arith}
 use lib.Dec.{eqb}
-use lib.ListN.{length, getD, drop, length-drop}
-use lib.Seq.{drop-cons, take-all}
-use borrow.Author.Tests.{eq-eqb, ne-eqb}
+use lib.ListN.{length, drop, length-drop}
+use lib.Seq.{drop-drop}
 use Rattle.format.specs.Bytes.{white, hyphen, greater}
-use Rattle.format.specs.Times.{Result, failed, got, onGot, expect, Time, timestamp, milliseconds, overHours}
+use Rattle.format.specs.Texts.{Part, startsWith}
+use Rattle.format.specs.Times.{Result, failed, got, onGot, missing, expect, Time, timestamp, milliseconds, overHours}
+use Rattle.format.specs.TellingTimes.{placeOf, timingLineAnswer, told, timingLineTold}
+use Rattle.format.specs.declared.times.TimeFault.{TimeFault}
+use Rattle.format.specs.declared.times.TimeFault.the-variants as Fault
 use Rattle.format.specs.Answers.{limited}
 use Rattle.format.specs.CueSettings.{cueSettings}
 use Rattle.format.specs.TimingLines as Format
-use Rattle.format.specs.TimingLines.{skipWhite, arrow, arrowAndEnd, timings, withSettings, timingOf, timingLine}
+use Rattle.format.specs.TimingLines.{arrow, arrowAndEnd, timings, withSettings, timingOf, timedLine}
 use Rattle.laws.proofs.Tests.{by-test, or-true}
 use Rattle.laws.proofs.Runs.{RunAt}
 use Rattle.values.specs.Times.{stampIs}
-use Rattle.values.specs.Tokens.{tokenFrom, partOf}
-use Rattle.values.proofs.StepLaws.{Steady, steady-then, steady-expect, steady-past, steady-got, steady-timestamp, left-at, StampRead}
+use Rattle.values.specs.Tokens.{tokenFrom}
+use Rattle.laws.proofs.TimeSteps.{Leaves, arrow-steps, timing-steps}
+use Rattle.values.proofs.StepLaws.{Unread, left-at, StampRead}
 use Rattle.timing.specs.declared.timing_line.ArrowEnd.the-variants as ArrowEnd
 use Rattle.timing.specs.Usual.{UsualRead}
-use Rattle.timing.specs.TimingLines.{arrowIs, bothIs, timesIs, withSettingsIs, lineFrom, timingLineIs, lineKind, timingLineAnswer, lineAnswer}
+use Rattle.timing.specs.TimingLines.{arrowIs, bothIs, timesIs, withSettingsIs, lineFrom, timingLineIs, timedLineIs, lineKind}
 use Rattle.timing.specs.declared.timing_line.Times.{Times}
 use Rattle.timing.specs.declared.timing_line.Times.the-variants as Times
 use Rattle.timing.specs.declared.timing_line.LineKind.the-variants as LineKind
-use Rattle.timing.specs.declared.timing_line.TimingLine.{TimingLine}
+use Rattle.format.specs.declared.times.TimingLine.{TimingLine}
 
-arrow-few : (x : List ℕ) → length x < 3 → arrow x ≡ failed
-unfolding arrow onGot expect
-arrow-few [] l = refl
-arrow-few (a ∷ []) l = by-test (eqb a hyphen) (λ y. rw y) (λ n. rw n)
-arrow-few (a ∷ (b ∷ [])) l =
-    by-test (eqb a hyphen) (λ y. by-test (eqb b hyphen) (λ z. rw (y, z)) (λ n. rw (y, n))) (λ n. rw n)
-arrow-few (a ∷ (b ∷ (c ∷ x))) l = absurd (omega arith)
+-- a character that has to stand here, by the test that it does
+expect-is : (c : ℕ) (x : List ℕ) → expect c x ≡ cond (startsWith (c ∷ []) x) (got tt (drop 1 x)) (failed (missing c) x)
+unfolding expect startsWith
+expect-is c [] = refl
+expect-is c (b ∷ x) = by-test (eqb b c) (λ y. rw y refl) (λ n. rw n refl)
 
-module _ (s : List ℕ) (at : ℕ) (h : at ≤ length s) where
-  pub arrow-short : length s - at < 3 → arrow (drop at s) ≡ failed
-  arrow-short l = arrow-few (drop at s) (omega (arith, length-drop at s))
+module _ (s : List ℕ) (at : ℕ) where
+  next : (n : ℕ) → drop 1 (drop (at + n) s) ≡ drop (at + suc n) s
+  next n = let e : at + n + 1 ≡ at + suc n = omega arith in drop-drop 1 (at + n) s ∙ rw e
 
-  module _ (l : 3 ≤ length s - at) where
-    three : drop at s ≡ getD s at 0 ∷ (getD s (at + 1) 0 ∷ (getD s (at + 2) 0 ∷ drop (at + 3) s))
-    three =
-        let e₁ : suc at ≡ at + 1 = omega arith in
-        let e₂ : suc (at + 1) ≡ at + 2 = omega arith in
-        let e₃ : suc (at + 2) ≡ at + 3 = omega arith in
-        drop-cons s at 0 (omega arith)
-        ∙ rw e₁
-        (ap (λ r. getD s at 0 ∷ r)
-        (drop-cons s (at + 1) 0 (omega arith)
-        ∙ rw e₂ (ap (λ r. getD s (at + 1) 0 ∷ r) (drop-cons s (at + 2) 0 (omega arith) ∙ rw e₃))))
+  begun : drop 1 (drop at s) ≡ drop (at + 1) s
+  begun = drop-drop 1 at s
 
-    pub arrow-first : (getD s at 0 ≡ hyphen → ⊥) → arrow (drop at s) ≡ failed
-    unfolding arrow onGot expect
-    arrow-first a = rw (three, ne-eqb (getD s at 0) hyphen a)
+  -- the arrow's characters from the first one on, as they stand or not
+  pub arrow-first : startsWith (hyphen ∷ []) (drop at s) ≡ false → arrow (drop at s) ≡ failed Fault.ArrowMissing (drop at s)
+  unfolding arrow onGot missing
+  arrow-first a = rw (expect-is hyphen (drop at s), a)
 
-    pub arrow-second : getD s at 0 ≡ hyphen → (getD s (at + 1) 0 ≡ hyphen → ⊥) → arrow (drop at s) ≡ failed
-    unfolding arrow onGot expect
-    arrow-second a b = rw (three, eq-eqb (getD s at 0) hyphen a, ne-eqb (getD s (at + 1) 0) hyphen b)
+  module _ (a : startsWith (hyphen ∷ []) (drop at s) ≡ true) where
+    pub arrow-second : startsWith (hyphen ∷ []) (drop (at + 1) s) ≡ false → arrow (drop at s) ≡ failed Fault.ArrowMissing (drop (at + 1) s)
+    unfolding arrow onGot missing
+    arrow-second b = rw (expect-is hyphen (drop at s), a, begun, expect-is hyphen (drop (at + 1) s), b)
 
-    pub arrow-third :
-        getD s at 0 ≡ hyphen → getD s (at + 1) 0 ≡ hyphen → (getD s (at + 2) 0 ≡ greater → ⊥) → arrow (drop at s) ≡ failed
-    unfolding arrow onGot expect
-    arrow-third a b c =
-        rw (three, eq-eqb (getD s at 0) hyphen a, eq-eqb (getD s (at + 1) 0) hyphen b, ne-eqb (getD s (at + 2) 0) greater c)
+    module _ (b : startsWith (hyphen ∷ []) (drop (at + 1) s) ≡ true) where
+      pub arrow-third : startsWith (greater ∷ []) (drop (at + 2) s) ≡ false → arrow (drop at s) ≡ failed Fault.ArrowMissing (drop (at + 2) s)
+      unfolding arrow onGot missing
+      arrow-third c = rw (expect-is hyphen (drop at s), a, begun, expect-is hyphen (drop (at + 1) s), b, next 1, expect-is greater (drop (at + 2) s), c)
 
-    pub arrow-here :
-        getD s at 0 ≡ hyphen → getD s (at + 1) 0 ≡ hyphen → getD s (at + 2) 0 ≡ greater → arrow (drop at s) ≡ got tt (drop (at + 3) s)
-    unfolding arrow onGot expect
-    arrow-here a b c =
-        rw (three, eq-eqb (getD s at 0) hyphen a, eq-eqb (getD s (at + 1) 0) hyphen b, eq-eqb (getD s (at + 2) 0) greater c)
-
-steady-arrow : Steady arrow
-unfolding arrow
-steady-arrow =
-    steady-then (expect hyphen) (λ u x. onGot (expect hyphen x) (λ v. expect greater)) (steady-expect hyphen)
-    (λ u. steady-then (expect hyphen) (λ v. expect greater) (steady-expect hyphen) (λ v. steady-expect greater))
-
-steady-skip : Steady skipWhite
-steady-skip x a r e = steady-past white x r (cc)
-
-pub steady-end : Steady arrowAndEnd
-unfolding arrowAndEnd
-steady-end =
-    steady-then skipWhite (λ u x. onGot (arrow x) (λ v y. onGot (skipWhite y) (λ w. timestamp))) steady-skip
-    (λ u. steady-then arrow (λ v y. onGot (skipWhite y) (λ w. timestamp)) steady-arrow
-    (λ v. steady-then skipWhite (λ w. timestamp) steady-skip (λ w. steady-timestamp)))
+      pub arrow-here : startsWith (greater ∷ []) (drop (at + 2) s) ≡ true → arrow (drop at s) ≡ got tt (drop (at + 3) s)
+      unfolding arrow onGot
+      arrow-here c = rw (expect-is hyphen (drop at s), a, begun, expect-is hyphen (drop (at + 1) s), b, next 1, expect-is greater (drop (at + 2) s), c) (ap (got tt) (next 2))
 
 -- an arrow, from the code's answer
 module _ (s : List ℕ) (at : ℕ) (h : at ≤ length s) where
-  pub no-arrow : ArrowEnd.None ≡ arrowIs (length s) (arrow (drop at s)) → arrow (drop at s) ≡ failed
-  no-arrow q = go (arrow (drop at s)) refl
+  pub no-arrow : (f : TimeFault) (k : ℕ) → ArrowEnd.Bad f k ≡ arrowIs (length s) (arrow (drop at s)) → Unread (arrow (drop at s)) (length s) f k
+  no-arrow f k q = go (arrow (drop at s)) refl
     where
-      go : (y : Result Unit) → arrow (drop at s) ≡ y → arrow (drop at s) ≡ failed
-      go failed e = e
+      go : (y : Result Unit) → arrow (drop at s) ≡ y → Unread (arrow (drop at s)) (length s) f k
+      go (failed g r) e =
+          let b : ArrowEnd.Bad f k ≡ ArrowEnd.Bad g (placeOf (length s) r) = rw e at q in
+          let same : f ≡ g = cc in
+          record { rest = r; is = rw same e; place = cc }
       go (got u r) e =
-          let g : ArrowEnd.None ≡ ArrowEnd.At (length s - length r) = rw e at q in let z : _≡_ {A = ℕ} 0 1 = cc in absurd (omega arith)
+          let g : ArrowEnd.Bad f k ≡ ArrowEnd.At (placeOf (length s) r) = rw e at q in let z : _≡_ {A = ℕ} 0 1 = cc in absurd (omega arith)
 
   pub arrow-read : (next : ℕ) → ArrowEnd.At next ≡ arrowIs (length s) (arrow (drop at s)) → (next ≤ length s) × (arrow (drop at s) ≡ got tt (drop next s))
   arrow-read next q = go (arrow (drop at s)) refl
     where
       go : (y : Result Unit) → arrow (drop at s) ≡ y → (next ≤ length s) × (arrow (drop at s) ≡ got tt (drop next s))
-      go failed e = let g : ArrowEnd.At next ≡ ArrowEnd.None = rw e at q in let z : _≡_ {A = ℕ} 0 1 = cc in absurd (omega arith)
+      go (failed f r) e = let g : ArrowEnd.At next ≡ ArrowEnd.Bad f (placeOf (length s) r) = rw e at q in let z : _≡_ {A = ℕ} 0 1 = cc in absurd (omega arith)
       go (got u r) e =
-          let g : ArrowEnd.At next ≡ ArrowEnd.At (length s - length r) = rw e at q in
-          let n : next ≡ length s - length r = cc in
-          let l = left-at s at r h (steady-arrow (drop at s) u r e) in
+          let g : ArrowEnd.At next ≡ ArrowEnd.At (placeOf (length s) r) = rw e at q in
+          let n : next ≡ placeOf (length s) r = cc in
+          let l = left-at s at r h (subst (Leaves _ (drop at s)) e (arrow-steps .at (drop at s))) in
           (omega (arith, l .1), e ∙ rw n (ap (got tt) (l .0)))
 
 -- the end time after the whitespace and the arrow
 module _ (s : List ℕ) (at w : ℕ) (r : RunAt white s at w) where
-  pub end-none : arrow (drop w s) ≡ failed → arrowAndEnd (drop at s) ≡ failed
+  pub end-none : (f : TimeFault) (x : List ℕ) → arrow (drop w s) ≡ failed f x → arrowAndEnd (drop at s) ≡ failed f x
   unfolding arrowAndEnd onGot
-  end-none f = rw (r .past, f)
+  end-none f x e = rw (r .past, e)
 
   pub end-is : (next w₂ : ℕ) → arrow (drop w s) ≡ got tt (drop next s) → RunAt white s next w₂ → arrowAndEnd (drop at s) ≡ timestamp (drop w₂ s)
   unfolding arrowAndEnd onGot
@@ -121,9 +99,9 @@ module _ (s : List ℕ) (at w : ℕ) (r : RunAt white s at w) where
 
 -- the times, from the start time on
 module _ (s : List ℕ) (from w : ℕ) (r : RunAt white s from w) where
-  pub times-none : timestamp (drop w s) ≡ failed → timings (drop from s) ≡ failed
+  pub times-none : (f : TimeFault) (k : ℕ) → Unread (timestamp (drop w s)) (length s) f k → Times.Bad f k ≡ timesIs (length s) (timings (drop from s))
   unfolding timings onGot
-  times-none f = rw (r .past, f)
+  times-none f k u = rw (r .past, u .is, u .place)
 
   module _ (next : ℕ) (t : Time) (read : StampRead timestamp s w next t) where
     timings-are : timings (drop from s) ≡ onGot (arrowAndEnd (drop next s)) (λ end. got (record { start = t; end = end }))
@@ -135,7 +113,7 @@ module _ (s : List ℕ) (from w : ℕ) (r : RunAt white s from w) where
           (y : Result Time)
           → bothIs o ms (stampIs (length s) y) ≡ timesIs (length s) (onGot y (λ end. got (record { start = t; end = end })))
       unfolding onGot
-      both-of failed = refl
+      both-of (failed f rest) = refl
       both-of (got e rest) =
           by-test (overHours e)
           (λ y. rw (over, y, or-true o) refl)
@@ -151,59 +129,73 @@ usual-is s at start end u =
     let place : length s - length (drop (at + 29) s) ≡ at + 29 = omega (arith, length-drop (at + 29) s, u .inside) in
     rw (u .reads, u .first-within, u .second-within, place, u .start-is, u .end-is)
 
-steady-timings : Steady timings
-unfolding timings
-steady-timings =
-    steady-then skipWhite (λ u x. onGot (timestamp x) (λ start y. onGot (arrowAndEnd y) (λ end. got (record { start = start; end = end })))) steady-skip
-    (λ u. steady-then timestamp (λ start y. onGot (arrowAndEnd y) (λ end. got (record { start = start; end = end }))) steady-timestamp
-    (λ start. steady-then arrowAndEnd (λ end. got (record { start = start; end = end })) steady-end (λ end. steady-got (record { start = start; end = end }))))
-
 -- the line, by its times
 module _ (s : List ℕ) (from : ℕ) (h : from ≤ length s) where
-  line-of : (y : Result Format.Times) → timings (drop from s) ≡ y → lineFrom s (timesIs (length s) y) ≡ timingLineIs (timingOf (tokenFrom s from) y)
+  line-of :
+      (y : Result Format.Times)
+      → timings (drop from s) ≡ y
+      → lineFrom s from (timesIs (length s) y) ≡ timingLineIs (length (drop from s)) (timingOf (tokenFrom s from) y)
   unfolding timingOf withSettings
-  line-of failed k = refl
+  line-of (failed f rest) k =
+      let place : placeOf (length s) rest - from ≡ placeOf (length (drop from s)) rest = omega (arith, length-drop from s) in
+      rw place
   line-of (got t rest) k =
-      let n = length s - length rest in
-      let l = left-at s from rest h (steady-timings (drop from s) t rest k) in
+      let n = placeOf (length s) rest in
+      let l = left-at s from rest h (subst (Leaves _ (drop from s)) k (timing-steps .at (drop from s))) in
       let place : from + (length (drop from s) - length rest) ≡ n = omega (arith, length-drop from s, l .1, l .2) in
-      by-test (overHours (t .start) || overHours (t .end)) (λ y. rw (place, y) refl) (λ z. rw (place, z, sym (l .0)) refl)
+      let after : n - from ≡ placeOf (length (drop from s)) rest = omega (arith, length-drop from s) in
+      by-test (overHours (t .start) || overHours (t .end)) (λ y. rw (place, y) refl) (λ z. rw (place, z, sym (l .0), after) refl)
 
-  pub line-is : lineFrom s (timesIs (length s) (timings (drop from s))) ≡ timingLineIs (timingLine (tokenFrom s from))
-  unfolding timingLine
+  pub line-is : lineFrom s from (timesIs (length s) (timings (drop from s))) ≡ timedLineIs (tokenFrom s from)
+  unfolding timedLineIs timedLine
   line-is = line-of (timings (drop from s)) refl
 
+  -- where the times fail
+  pub times-after : (f : TimeFault) (k : ℕ) → Times.Bad f k ≡ timesIs (length s) (timings (drop from s)) → from ≤ k
+  times-after f k q = go (timings (drop from s)) refl
+    where
+      go : (y : Result Format.Times) → timings (drop from s) ≡ y → from ≤ k
+      go (failed g rest) e =
+          let b : Times.Bad f k ≡ Times.Bad g (placeOf (length s) rest) = rw e at q in
+          let place : k ≡ placeOf (length s) rest = cc in
+          omega (arith, left-at s from rest h (subst (Leaves _ (drop from s)) e (timing-steps .at (drop from s)) .1) .2)
+      go (got t rest) e =
+          let g : Times.Bad f k ≡ timesIs (length s) (got t rest) = rw e at q in
+          by-test (overHours (t .start) || overHours (t .end))
+          (λ y. let b : Times.Bad f k ≡ Times.Over = rw y at g in let z : _≡_ {A = ℕ} 0 1 = cc in absurd (omega arith))
+          (λ n. let b : Times.Bad f k ≡ Times.Good (milliseconds (t .start)) (milliseconds (t .end)) (placeOf (length s) rest) = rw n at g in
+          let z : _≡_ {A = ℕ} 0 1 = cc in
+          absurd (omega arith))
+
   -- where the times end
-  pub times-inside : (start end next : ℕ) → Times.Good start end next ≡ timesIs (length s) (timings (drop from s)) → next ≤ length s
+  pub times-inside : (start end next : ℕ) → Times.Good start end next ≡ timesIs (length s) (timings (drop from s)) → (from ≤ next) × (next ≤ length s)
   times-inside start end next q = go (timings (drop from s)) refl
     where
-      go : (y : Result Format.Times) → timings (drop from s) ≡ y → next ≤ length s
-      go failed k = let g : Times.Good start end next ≡ Times.Bad = rw k at q in let z : _≡_ {A = ℕ} 0 1 = cc in absurd (omega arith)
+      go : (y : Result Format.Times) → timings (drop from s) ≡ y → (from ≤ next) × (next ≤ length s)
+      go (failed f rest) k =
+          let g : Times.Good start end next ≡ Times.Bad f (placeOf (length s) rest) = rw k at q in let z : _≡_ {A = ℕ} 0 1 = cc in absurd (omega arith)
       go (got t rest) k =
           let g : Times.Good start end next ≡ timesIs (length s) (got t rest) = rw k at q in
+          let l = left-at s from rest h (subst (Leaves _ (drop from s)) k (timing-steps .at (drop from s))) in
           by-test (overHours (t .start) || overHours (t .end))
           (λ y. let f : Times.Good start end next ≡ Times.Over = rw y at g in let z : _≡_ {A = ℕ} 0 1 = cc in absurd (omega arith))
-          (λ n. let f : Times.Good start end next ≡ Times.Good (milliseconds (t .start)) (milliseconds (t .end)) (length s - length rest) = rw n at g in
-          let e : next ≡ length s - length rest = cc in
-          omega arith)
+          (λ n. let f : Times.Good start end next ≡ Times.Good (milliseconds (t .start)) (milliseconds (t .end)) (placeOf (length s) rest) = rw n at g in
+          let e : next ≡ placeOf (length s) rest = cc in
+          (omega (arith, l .2), omega arith))
 
 -- what a line is, by its settings
 pub kind-with :
-    (s : List ℕ) (start end at : ℕ)
-    → lineKind (withSettingsIs s start end at) ≡ cond (cueSettings (tokenFrom s at) .over) LineKind.Over LineKind.Good
-kind-with s start end at = by-test (cueSettings (tokenFrom s at) .over) (λ y. rw y refl) (λ n. rw n refl)
-
--- the part of a text from a place up to its end
-pub part-rest : (s : List ℕ) (at : ℕ) → at ≤ length s → partOf s at (length s) ≡ tokenFrom s at
-part-rest s at l =
-    let a : min (length s) (length s) ≡ length s = omega arith in
-    let b : min at (length s) ≡ at = omega arith in
-    let n : length (drop at s) ≤ length s - at = omega (arith, length-drop at s) in
-    rw (a, b, take-all (length s - at) (drop at s) n)
+    (s : List ℕ) (from start end at : ℕ)
+    → lineKind (withSettingsIs s from start end at) ≡ cond (cueSettings (tokenFrom s at) .over) LineKind.Over LineKind.Good
+kind-with s from start end at = by-test (cueSettings (tokenFrom s at) .over) (λ y. rw y refl) (λ n. rw n refl)
 
 -- a timing line that was read is answered by document 01's number and values
-pub timing-told :
-    (t : Option Format.Timing) (r : TimingLine) → r ≡ timingLineIs t → (r ≡ timingLineIs t) × (timingLineAnswer r ≡ lineAnswer t)
-unfolding limited
-timing-told none r e = (e, rw e refl)
-timing-told (some t) r e = (e, rw e (by-test (t .over) (λ y. rw y refl) (λ z. rw z refl)))
+pub timing-told : (line : Part) (r : TimingLine) → r ≡ timedLineIs line → (r ≡ timedLineIs line) × (timingLineAnswer r ≡ timingLineTold line)
+unfolding timedLineIs timingLineAnswer timingLineTold told limited
+timing-told line r e = (e, ap timingLineAnswer e ∙ go (timedLine line))
+  where
+    go :
+        (x : Result Format.Timing)
+        → timingLineAnswer (timingLineIs (length (line .bytes)) x) ≡ told (λ t. t .over) (λ t. t .start ∷ t .end ∷ []) (length (line .bytes)) x
+    go (failed f rest) = refl
+    go (got t rest) = by-test (t .over) (λ y. rw y refl) (λ z. rw z refl)

@@ -153,9 +153,11 @@ pub arrow-read :
     → getD x 3 0 ≡ greater
     → getD x 4 0 ≡ space
     → ArrowRead x
-unfolding arrowAndEnd onGot digit white
+unfolding arrowAndEnd onGot digit white startsWith
 arrow-read x h a b c d e =
-    let here = arrow-here x 1 (omega arith) (omega arith) b c d in
+    let stands : (i v : ℕ) → i < length x → getD x i 0 ≡ v → startsWith (v ∷ []) (drop i x) ≡ true =
+    λ i v l k. rw (drop-cons x i 0 l, eq-eqb (getD x i 0) v k) in
+    let here = arrow-here x 1 (stands 1 hyphen (omega arith) b) (stands 2 hyphen (omega arith) c) (stands 3 greater (omega arith) d) in
     record {
       stops = run-stop digit x 0 (omega arith) (rw a refl);
       reads = rw (past-space x 0 (omega arith) a, no-white x 1 (omega arith) (rw b refl), here, past-space x 4 (omega arith) e);

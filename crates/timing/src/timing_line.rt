@@ -1,21 +1,35 @@
 // A cue's timing line.
 use crate::usual::Usual;
 use crate::usual::usual_times;
-use format::settings::Settings;
-use format::settings::Span;
+use format::times::Stamp;
+use format::times::TimeFault;
+use format::times::Timing;
+use format::times::TimingLine;
 use values::bytes::ByteKind;
-use values::times::Stamp;
+use values::bytes::is_at;
 ghost use mathlib.Core.Path.{_≡_};
 ghost use Prim.Native.Nat.{_≤_};
 ghost use lib.ListN.{length, drop};
-ghost use Rattle.format.specs.TimingLines.{arrow, arrowAndEnd, timings, timingLine};
+ghost use Rattle.format.specs.TimingLines.{arrow, arrowAndEnd, timings};
+ghost use Rattle.format.specs.declared.times.TimeFault.the-variants as Fault;
 ghost use Rattle.values.specs.Times.{stampIs};
 ghost use Rattle.values.specs.Tokens.{tokenFrom};
-ghost use Rattle.timing.specs.TimingLines.{arrowIs, bothIs, timesIs, withSettingsIs, timingLineIs, lineKind};
+ghost use Rattle.timing.specs.TimingLines.{arrowIs, bothIs, timesIs, withSettingsIs, timedLineIs, lineKind};
+ghost use Rattle.timing.specs.declared.timing_line.ArrowEnd.the-variants as ArrowEnd;
 
 pub enum ArrowEnd {
-    None,
+    Bad { fault: TimeFault, at: usize },
     At(usize),
+}
+
+// An arrow of which this is the first character that is not there.
+fn no_arrow(at: usize) -> ArrowEnd
+    ensures { λ r. ⌜ r ≡ ArrowEnd.Bad Fault.ArrowMissing at ⌝ }
+{
+    ArrowEnd::Bad {
+        fault: TimeFault::ArrowMissing,
+        at,
+    }
 }
 
 // Where `-->` ends that stands at `at`.
@@ -23,17 +37,14 @@ fn arrow_end(s: &[u8], at: usize) -> ArrowEnd
     requires { ⌜ at ≤ length (now s) ⌝ }
     ensures { λ r. ⌜ r ≡ arrowIs (length (now (s .entry))) (arrow (drop at (now (s .entry)))) ⌝ }
 {
-    if s.len() - at < 3 {
-        return ArrowEnd::None;
+    if !is_at(s, at, b'-') {
+        return no_arrow(at);
     }
-    if s[at] != b'-' {
-        return ArrowEnd::None;
+    if !is_at(s, at + 1, b'-') {
+        return no_arrow(at + 1);
     }
-    if s[at + 1] != b'-' {
-        return ArrowEnd::None;
-    }
-    if s[at + 2] != b'>' {
-        return ArrowEnd::None;
+    if !is_at(s, at + 2, b'>') {
+        return no_arrow(at + 2);
     }
     ArrowEnd::At(at + 3)
 }
@@ -44,7 +55,7 @@ fn read_end(s: &[u8], at: usize) -> Stamp
     ensures { λ r. ⌜ r ≡ stampIs (length (now (s .entry))) (arrowAndEnd (drop at (now (s .entry)))) ⌝ }
 {
     match arrow_end(s, values::bytes::past(s, at, ByteKind::White)) {
-        ArrowEnd::None => Stamp::Bad,
+        ArrowEnd::Bad { fault, at: place } => Stamp::Bad { fault, at: place },
         ArrowEnd::At(next) => values::times::read_timestamp(
             s,
             values::bytes::past(s, next, ByteKind::White),
@@ -54,8 +65,8 @@ fn read_end(s: &[u8], at: usize) -> Stamp
 
 // The two times of a timing line.
 pub enum Times {
-    // It is no timing line.
-    Bad,
+    // It is no timing line: the step that failed, and where.
+    Bad { fault: TimeFault, at: usize },
     // It is one, with hours above their limit.
     Over,
     // In milliseconds, and where the end time ends.
@@ -67,7 +78,7 @@ fn both_times(over: bool, start: u64, end: Stamp) -> Times
     ensures { λ r. ⌜ r ≡ bothIs over start end ⌝ }
 {
     match end {
-        Stamp::Bad => Times::Bad,
+        Stamp::Bad { fault, at } => Times::Bad { fault, at },
         Stamp::Over { next: _ } => Times::Over,
         Stamp::At { ms, next } => {
             if over {
@@ -88,7 +99,7 @@ fn read_any_times(s: &[u8], from: usize) -> Times
     ensures { λ r. ⌜ r ≡ timesIs (length (now (s .entry))) (timings (drop from (now (s .entry)))) ⌝ }
 {
     match values::times::read_timestamp(s, values::bytes::past(s, from, ByteKind::White)) {
-        Stamp::Bad => Times::Bad,
+        Stamp::Bad { fault, at } => Times::Bad { fault, at },
         Stamp::Over { next } => both_times(true, 0, read_end(s, next)),
         Stamp::At { ms, next } => both_times(false, ms, read_end(s, next)),
     }
@@ -109,25 +120,10 @@ fn read_times(s: &[u8], from: usize) -> Times
     }
 }
 
-pub struct Timing {
-    pub start: u64,
-    pub end: u64,
-    pub settings: Settings,
-    // The name of the region that was asked for.
-    pub region: Span,
-}
-
-pub enum TimingLine {
-    // It is no timing line.
-    Bad,
-    // It is one, with a number above its limit.
-    Over,
-    Good(Timing),
-}
-
-fn with_settings(s: &[u8], at: usize, start: u64, end: u64) -> TimingLine
-    requires { ⌜ at ≤ length (now s) ⌝ }
-    ensures { λ r. ⌜ r ≡ withSettingsIs (now (s .entry)) start end at ⌝ }
+// The line that stands from `from` on, whose times end at `at`.
+fn with_settings(s: &[u8], from: usize, at: usize, start: u64, end: u64) -> TimingLine
+    requires { ⌜ (from ≤ at) × (at ≤ length (now s)) ⌝ }
+    ensures { λ r. ⌜ r ≡ withSettingsIs (now (s .entry)) from start end at ⌝ }
 {
     let taken = cue_settings::all_settings(s, at, s.len());
     if taken.over {
@@ -140,18 +136,22 @@ fn with_settings(s: &[u8], at: usize, start: u64, end: u64) -> TimingLine
         end,
         settings,
         region,
+        next: at - from,
     })
 }
 
 // The timing line that stands from `from` up to the end of `s`.
 pub(crate) fn read_timing_line(s: &[u8], from: usize) -> TimingLine
     requires { ⌜ from ≤ length (now s) ⌝ }
-    ensures { λ r. ⌜ r ≡ timingLineIs (timingLine (tokenFrom (now (s .entry)) from)) ⌝ }
+    ensures { λ r. ⌜ r ≡ timedLineIs (tokenFrom (now (s .entry)) from) ⌝ }
 {
     match read_times(s, from) {
-        Times::Bad => TimingLine::Bad,
+        Times::Bad { fault, at } => TimingLine::Bad {
+            fault,
+            at: at - from,
+        },
         Times::Over => TimingLine::Over,
-        Times::Good { start, end, next } => with_settings(s, next, start, end),
+        Times::Good { start, end, next } => with_settings(s, from, next, start, end),
     }
 }
 
@@ -165,10 +165,10 @@ pub enum LineKind {
 // What the line is that stands from `from` up to the end of `s`.
 pub(crate) fn read_kind(s: &[u8], from: usize) -> LineKind
     requires { ⌜ from ≤ length (now s) ⌝ }
-    ensures { λ r. ⌜ r ≡ lineKind (timingLineIs (timingLine (tokenFrom (now (s .entry)) from))) ⌝ }
+    ensures { λ r. ⌜ r ≡ lineKind (timedLineIs (tokenFrom (now (s .entry)) from)) ⌝ }
 {
     match read_times(s, from) {
-        Times::Bad => LineKind::Bad,
+        Times::Bad { fault: _, at: _ } => LineKind::Bad,
         Times::Over => LineKind::Over,
         Times::Good {
             start: _,

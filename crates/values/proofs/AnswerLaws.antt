@@ -1,23 +1,26 @@
 -- A value that was read is answered by document 01's number and values.
 use Prim.Native.Nat.{ℕ}
 use mathlib.Core.Path.{_≡_, refl}
+use mathlib.Core.List.{[], _∷_}
 use mathlib.Core.Option.{Option, none, some}
 use lib.Dec.{ltb}
 use Rattle.format.specs.Limits.{maxLine}
 use Rattle.format.specs.Answers.{limited}
 use Rattle.format.specs.Numbers.{overLine}
 use Rattle.format.specs.Numbers as Format
-use Rattle.format.specs.Times.{Result, failed, got, Time, overHours}
+use Rattle.format.specs.Times.{Result, failed, got, Time, milliseconds, overHours}
+use Rattle.format.specs.TellingTimes.{stampAnswer, told}
 use Rattle.laws.proofs.Tests.{by-test}
 use Rattle.values.specs.Numbers.{lineNumberIs, lineNumberAnswer, numberAnswer, lineCountIs, lineCountAnswer, countAnswer}
-use Rattle.values.specs.Times.{stampIs, stampAnswer, timeAnswer}
-use Rattle.values.specs.declared.times.Stamp.{Stamp}
+use Rattle.values.specs.Times.{stampIs}
+use Rattle.format.specs.declared.times.Stamp.{Stamp}
 use Rattle.values.specs.declared.numbers.LineNumber.{LineNumber}
 use Rattle.values.specs.declared.numbers.LineCount.{LineCount}
 
-pub stamp-told : (n : ℕ) (t : Result Time) (r : Stamp) → r ≡ stampIs n t → (r ≡ stampIs n t) × (stampAnswer r ≡ timeAnswer n t)
-unfolding limited
-stamp-told n failed r e = (e, rw e refl)
+pub stamp-told :
+    (n : ℕ) (t : Result Time) (r : Stamp) → r ≡ stampIs n t → (r ≡ stampIs n t) × (stampAnswer r ≡ told overHours (λ t. milliseconds t ∷ []) n t)
+unfolding stampAnswer told limited
+stamp-told n (failed f rest) r e = (e, rw e refl)
 stamp-told n (got t rest) r e = (e, rw e (by-test (overHours t) (λ y. rw y refl) (λ z. rw z refl)))
 
 pub line-told :

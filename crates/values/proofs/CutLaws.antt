@@ -140,3 +140,11 @@ cut-at s from to end start e b =
       inside = omega (arith, n);
       part = rw (drop-take start end s, e, p);
     }
+
+-- the part of a text from a place up to its end
+pub part-rest : (s : List ℕ) (at : ℕ) → at ≤ length s → partOf s at (length s) ≡ tokenFrom s at
+part-rest s at l =
+    let a : min (length s) (length s) ≡ length s = omega arith in
+    let b : min at (length s) ≡ at = omega arith in
+    let n : length (drop at s) ≤ length s - at = omega (arith, length-drop at s) in
+    rw (a, b, take-all (length s - at) (drop at s) n)

@@ -1,119 +1,43 @@
--- Steps of reading leave the end of what they were given, so that a place stands for what is left.
+-- Steps of reading leave the end of what they were given (`TimeSteps` of `laws`), so that a place stands for what is left.
 use Prim.Native.Nat.{ℕ, _+_, _-_, _≤_}
-use mathlib.Core.Path.{_≡_, refl, ap, _∙_}
-use mathlib.Core.Bool.{Bool, true, false, not, _||_}
+use mathlib.Core.Path.{_≡_, refl, sym, ap, subst, _∙_}
+use mathlib.Core.Bool.{true, false}
 use mathlib.Core.List.{List, [], _∷_}
 use native.Mathlib.Omega.{arith}
-use lib.Dec.{eqb}
-use lib.ListN.{length, drop, length-drop}
-use lib.Seq.{drop-drop}
-use Rattle.format.specs.Bytes.{digit, colon, fullStop}
-use Rattle.format.specs.Texts.{isEmpty, run, pastRun, startsWith}
-use Rattle.format.specs.Numbers.{number}
-use Rattle.format.specs.Times.{Result, failed, got, onGot, Step, holds, aDigit, string, expect, exactly, Time, field, hoursFirst, threeValues, inRange, lastSteps, timestamp, milliseconds, overHours}
+use lib.ListN.{length, drop, length-drop, length-append}
+use lib.Seq.{drop-drop, drop-append-seam}
+use borrow.Author.Tests.{lt-ltb, le-ltb}
+use Rattle.format.specs.Texts.{isEmpty}
+use Rattle.format.specs.Times.{Result, failed, got, onGot, Step, Time, timestamp, nothingAfter, onlyTime, milliseconds, overHours}
+use Rattle.format.specs.TellingTimes.{placeOf}
+use Rattle.format.specs.declared.times.TimeFault.{TimeFault}
 use Rattle.laws.proofs.Tests.{by-test}
-use Rattle.laws.proofs.Runs.{run-length, pastRun-drop}
-use Rattle.values.specs.declared.times.Stamp.the-variants as Stamp
-use Rattle.values.specs.Times.{stampIs}
+use Rattle.laws.proofs.TimeSteps.{Passed, Leaves, Keeps, time-steps}
+use Rattle.format.specs.declared.times.Stamp.the-variants as Stamp
+use Rattle.values.specs.Times.{stampIs, endedIs}
 
--- r is what is left of x
-pub record Leaves (x r : List ℕ) : Type 0 where
-  pub count : ℕ
-  pub is : r ≡ drop count x
-  pub most : count ≤ length x
-
-pub leaves-self : (x r : List ℕ) → r ≡ x → Leaves x r
-leaves-self x r e = record { count = 0; is = e; most = omega arith }
-
-leaves-more : (x y z : List ℕ) → Leaves x y → Leaves y z → Leaves x z
-leaves-more x y z a b =
-    record {
-      count = a .count + b .count;
-      is = b .is ∙ ap (drop (b .count)) (a .is) ∙ drop-drop (b .count) (a .count) x;
-      most = omega (arith, a .most, b .most, ap length (a .is), length-drop (a .count) x);
-    }
-
-abbrev pub Steady : {A : Type 0} → Step A → Type 0
-Steady {A} m = (x : List ℕ) (a : A) (r : List ℕ) → m x ≡ got a r → Leaves x r
-
-pub steady-then : {A B : Type 0} (m : Step A) (f : A → Step B) → Steady m → ((a : A) → Steady (f a)) → Steady (λ x. onGot (m x) f)
-unfolding onGot
-steady-then {A} {B} m f p q x b r e = go (m x) refl
-  where
-    go : (y : Result A) → m x ≡ y → Leaves x r
-    go failed k = let g : _≡_ {A = Result B} failed (got b r) = rw k at e in let z : _≡_ {A = ℕ} 0 1 = cc in absurd (omega arith)
-    go (got a y) k = let g : f a y ≡ got b r = rw k at e in leaves-more x y r (p x a y k) (q a y b r g)
-
-pub steady-got : {A : Type 0} (a : A) → Steady (got a)
-steady-got a x b r e = leaves-self x r (cc)
-
-pub steady-holds : (t : Bool) → Steady (holds t)
-steady-holds t x a r e =
-    by-test t
-    (λ y. let g : _≡_ {A = Result Unit} (got tt x) (got a r) = rw y at e in leaves-self x r (cc))
-    (λ n. let g : _≡_ {A = Result Unit} failed (got a r) = rw n at e in let z : _≡_ {A = ℕ} 0 1 = cc in absurd (omega arith))
-
-steady-digit : Steady aDigit
-steady-digit x a r e = steady-holds (not (isEmpty (run digit x))) x a r e
-
-pub steady-past : (p : ℕ → Bool) (x r : List ℕ) → r ≡ pastRun p x → Leaves x r
-steady-past p x r e = record { count = length (run p x); is = e ∙ pastRun-drop p x; most = run-length p x }
-
-steady-string : Steady string
-steady-string x a r e = steady-past digit x r (cc)
-
-pub steady-expect : (c : ℕ) → Steady (expect c)
-unfolding expect
-steady-expect c [] a r e = let z : _≡_ {A = ℕ} 0 1 = cc in absurd (omega arith)
-steady-expect c (b ∷ x) a r e =
-    by-test (eqb b c)
-    (λ y. let g : _≡_ {A = Result Unit} (got tt x) (got a r) = rw y at e in
-    record { count = 1; is = cc; most = omega arith })
-    (λ n. let g : _≡_ {A = Result Unit} failed (got a r) = rw n at e in let z : _≡_ {A = ℕ} 0 1 = cc in absurd (omega arith))
-
-steady-field : (c n : ℕ) → Steady (field c n)
-unfolding field
-steady-field c n =
-    steady-then (expect c) (λ u x. onGot (string x) (λ ds y. onGot (exactly n ds y) (λ v. got (number ds)))) (steady-expect c)
-    (λ u. steady-then string (λ ds y. onGot (exactly n ds y) (λ v. got (number ds))) steady-string
-    (λ ds. steady-then (exactly n ds) (λ v. got (number ds)) (steady-holds (eqb (length ds) n)) (λ v. steady-got (number ds))))
-
-steady-three : (first : List ℕ) (second : ℕ) → Steady (threeValues first second)
-unfolding threeValues
-steady-three first second x a r e =
-    by-test (hoursFirst first || startsWith (colon ∷ []) x)
-    (λ y. steady-then (field colon 2)
-    (λ third. got (record { hours = number first; minutes = second; seconds = third; thousandths = 0 })) (steady-field colon 2)
-    (λ third. steady-got (record { hours = number first; minutes = second; seconds = third; thousandths = 0 })) x a r (rw y at e))
-    (λ n. steady-got (record { hours = 0; minutes = number first; seconds = second; thousandths = 0 }) x a r (rw n at e))
-
-steady-last : (t : Time) → Steady (lastSteps t)
-unfolding lastSteps
-steady-last t =
-    steady-then (field fullStop 3)
-    (λ f x. onGot (holds (inRange t) x)
-    (λ u. got (record { hours = t .hours; minutes = t .minutes; seconds = t .seconds; thousandths = f }))) (steady-field fullStop 3)
-    (λ f. steady-then (holds (inRange t)) (λ u. got (record { hours = t .hours; minutes = t .minutes; seconds = t .seconds; thousandths = f }))
-    (steady-holds (inRange t))
-    (λ u. steady-got (record { hours = t .hours; minutes = t .minutes; seconds = t .seconds; thousandths = f })))
-
-pub steady-timestamp : Steady timestamp
-unfolding timestamp
-steady-timestamp =
-    steady-then aDigit
-    (λ u x. onGot (string x) (λ first y. onGot (field colon 2 y) (λ second z. onGot (threeValues first second z) lastSteps)))
-    steady-digit
-    (λ u. steady-then string (λ first y. onGot (field colon 2 y) (λ second z. onGot (threeValues first second z) lastSteps))
-    steady-string
-    (λ first. steady-then (field colon 2) (λ second z. onGot (threeValues first second z) lastSteps) (steady-field colon 2)
-    (λ second. steady-then (threeValues first second) lastSteps (steady-three first second) steady-last)))
+-- where the code stands, from what is left
+pub place-is : (s : List ℕ) (i : ℕ) → i ≤ length s → placeOf (length s) (drop i s) ≡ i
+place-is s i h = omega (arith, length-drop i s)
 
 -- what is left of a text from a place on is the text from another place on
-pub left-at : (s : List ℕ) (at : ℕ) (r : List ℕ) → at ≤ length s → Leaves (drop at s) r → (r ≡ drop (length s - length r) s) × (length s - length r ≤ length s) × (at ≤ length s - length r)
-left-at s at r h l =
-    let e = l .is ∙ drop-drop (l .count) at s in
-    let n : length s - length r ≡ at + l .count = omega (arith, ap length e, length-drop (at + l .count) s, l .most, length-drop at s) in
+pub left-at :
+    (s : List ℕ) (at : ℕ) (r : List ℕ) → at ≤ length s → Passed (drop at s) r → (r ≡ drop (length s - length r) s) × (length s - length r ≤ length s) × (at ≤ length s - length r)
+left-at s at r h p =
+    let k = length (p .gone) in
+    let n : length s - length r ≡ at + k = omega (arith, ap length (p .is), length-append (p .gone) r, length-drop at s) in
+    let e : r ≡ drop (at + k) s = sym (drop-append-seam (p .gone) r) ∙ ap (drop k) (sym (p .is)) ∙ drop-drop k at s in
     (rw n e, omega arith, omega arith)
+
+-- a result that failed, from the code's answer in a text of n bytes
+pub record Unread {A : Type 0} (r : Result A) (n : ℕ) (f : TimeFault) (k : ℕ) : Type 0 where
+  pub rest : List ℕ
+  pub is : r ≡ failed f rest
+  pub place : k ≡ placeOf n rest
+
+-- a time that fails as another step did
+pub stamp-unread : {A : Type 0} (x : Result A) (t : Result Time) (n : ℕ) (f : TimeFault) (k : ℕ) (u : Unread x n f k) → t ≡ failed f (u .rest) → Stamp.Bad f k ≡ stampIs n t
+stamp-unread x t n f k u e = rw (e, u .place)
 
 -- a time that was read by a step, from the code's answer
 pub record StampRead (m : Step Time) (s : List ℕ) (at next : ℕ) (t : Time) : Type 0 where
@@ -121,33 +45,36 @@ pub record StampRead (m : Step Time) (s : List ℕ) (at next : ℕ) (t : Time) :
   pub inside : next ≤ length s
   pub after : at ≤ next
 
-module _ (m : Step Time) (steady : Steady m) (s : List ℕ) (at : ℕ) (h : at ≤ length s) where
-  pub stamp-bad : Stamp.Bad ≡ stampIs (length s) (m (drop at s)) → m (drop at s) ≡ failed
-  stamp-bad q = go (m (drop at s)) refl
+module _ (P : TimeFault → Type 0) (m : Step Time) (keeps : Keeps P m) (s : List ℕ) (at : ℕ) (h : at ≤ length s) where
+  pub stamp-bad : (f : TimeFault) (k : ℕ) → Stamp.Bad f k ≡ stampIs (length s) (m (drop at s)) → Unread (m (drop at s)) (length s) f k
+  stamp-bad f k q = go (m (drop at s)) refl
     where
-      go : (y : Result Time) → m (drop at s) ≡ y → m (drop at s) ≡ failed
-      go failed e = e
+      go : (y : Result Time) → m (drop at s) ≡ y → Unread (m (drop at s)) (length s) f k
+      go (failed g r) e =
+          let b : Stamp.Bad f k ≡ Stamp.Bad g (placeOf (length s) r) = rw e at q in
+          let same : f ≡ g = cc in
+          record { rest = r; is = rw same e; place = cc }
       go (got t r) e =
-          let g : Stamp.Bad ≡ stampIs (length s) (got t r) = rw e at q in
+          let g : Stamp.Bad f k ≡ stampIs (length s) (got t r) = rw e at q in
           by-test (overHours t)
-          (λ y. let k : Stamp.Bad ≡ Stamp.Over (length s - length r) = rw y at g in let z : _≡_ {A = ℕ} 0 1 = cc in absurd (omega arith))
-          (λ n. let k : Stamp.Bad ≡ Stamp.At (milliseconds t) (length s - length r) = rw n at g in let z : _≡_ {A = ℕ} 0 1 = cc in absurd (omega arith))
+          (λ y. let b : Stamp.Bad f k ≡ Stamp.Over (placeOf (length s) r) = rw y at g in let z : _≡_ {A = ℕ} 0 1 = cc in absurd (omega arith))
+          (λ n. let b : Stamp.Bad f k ≡ Stamp.At (milliseconds t) (placeOf (length s) r) = rw n at g in let z : _≡_ {A = ℕ} 0 1 = cc in absurd (omega arith))
 
   read-at : (t : Time) (r : List ℕ) (next : ℕ) → m (drop at s) ≡ got t r → next ≡ length s - length r → StampRead m s at next t
   read-at t r next e n =
-      let l = left-at s at r h (steady (drop at s) t r e) in
+      let l = left-at s at r h (subst (Leaves P (drop at s)) e (keeps .at (drop at s))) in
       record { is = e ∙ rw n (ap (got t) (l .0)); inside = omega (arith, l .1); after = omega (arith, l .2) }
 
   pub stamp-over : (next : ℕ) → Stamp.Over next ≡ stampIs (length s) (m (drop at s)) → (t : Time) × StampRead m s at next t × (overHours t ≡ true)
   stamp-over next q = go (m (drop at s)) refl
     where
       go : (y : Result Time) → m (drop at s) ≡ y → (t : Time) × StampRead m s at next t × (overHours t ≡ true)
-      go failed e = let g : Stamp.Over next ≡ Stamp.Bad = rw e at q in let z : _≡_ {A = ℕ} 0 1 = cc in absurd (omega arith)
+      go (failed f r) e = let g : Stamp.Over next ≡ Stamp.Bad f (placeOf (length s) r) = rw e at q in let z : _≡_ {A = ℕ} 0 1 = cc in absurd (omega arith)
       go (got t r) e =
           let g : Stamp.Over next ≡ stampIs (length s) (got t r) = rw e at q in
           by-test (overHours t)
-          (λ y. let k : Stamp.Over next ≡ Stamp.Over (length s - length r) = rw y at g in (t, read-at t r next e (cc), y))
-          (λ n. let k : Stamp.Over next ≡ Stamp.At (milliseconds t) (length s - length r) = rw n at g in
+          (λ y. let k : Stamp.Over next ≡ Stamp.Over (placeOf (length s) r) = rw y at g in (t, read-at t r next e (cc), y))
+          (λ n. let k : Stamp.Over next ≡ Stamp.At (milliseconds t) (placeOf (length s) r) = rw n at g in
           let z : _≡_ {A = ℕ} 0 1 = cc in
           absurd (omega arith))
 
@@ -158,11 +85,31 @@ module _ (m : Step Time) (steady : Steady m) (s : List ℕ) (at : ℕ) (h : at �
   stamp-at ms next q = go (m (drop at s)) refl
     where
       go : (y : Result Time) → m (drop at s) ≡ y → (t : Time) × StampRead m s at next t × (overHours t ≡ false) × (milliseconds t ≡ ms)
-      go failed e = let g : Stamp.At ms next ≡ Stamp.Bad = rw e at q in let z : _≡_ {A = ℕ} 0 1 = cc in absurd (omega arith)
+      go (failed f r) e = let g : Stamp.At ms next ≡ Stamp.Bad f (placeOf (length s) r) = rw e at q in let z : _≡_ {A = ℕ} 0 1 = cc in absurd (omega arith)
       go (got t r) e =
           let g : Stamp.At ms next ≡ stampIs (length s) (got t r) = rw e at q in
           by-test (overHours t)
-          (λ y. let k : Stamp.At ms next ≡ Stamp.Over (length s - length r) = rw y at g in
+          (λ y. let k : Stamp.At ms next ≡ Stamp.Over (placeOf (length s) r) = rw y at g in
           let z : _≡_ {A = ℕ} 0 1 = cc in
           absurd (omega arith))
-          (λ n. let k : Stamp.At ms next ≡ Stamp.At (milliseconds t) (length s - length r) = rw n at g in (t, read-at t r next e (cc), n, cc))
+          (λ n. let k : Stamp.At ms next ≡ Stamp.At (milliseconds t) (placeOf (length s) r) = rw n at g in (t, read-at t r next e (cc), n, cc))
+
+-- a time that is all of a text of n bytes, by where it ends
+ended-of :
+    (n : ℕ) (r : Result Time)
+    → ((t : Time) (rest : List ℕ) → r ≡ got t rest → length rest ≤ n)
+    → endedIs n (stampIs n r) ≡ stampIs n (onGot r (λ t x. onGot (nothingAfter x) (λ u. got t)))
+unfolding onGot isEmpty
+ended-of n (failed f s) h = refl
+ended-of n (got t []) h =
+    let e : placeOf n [] ≡ n = omega arith in
+    by-test (overHours t) (λ y. rw (y, e, le-ltb n n (omega arith))) (λ m. rw (m, e, le-ltb n n (omega arith)))
+ended-of n (got t (b ∷ s)) h =
+    let l = lt-ltb (placeOf n (b ∷ s)) n (omega (arith, h t (b ∷ s) refl)) in
+    by-test (overHours t) (λ y. rw (y, l)) (λ m. rw (m, l))
+
+pub ended-is : (s : List ℕ) → endedIs (length s) (stampIs (length s) (timestamp s)) ≡ stampIs (length s) (onlyTime s)
+unfolding onlyTime
+ended-is s =
+    ended-of (length s) (timestamp s)
+    (λ t rest e. let p = subst (Leaves _ s) e (time-steps .at s) in omega (arith, ap length (p .is), length-append (p .gone) rest))

@@ -13,31 +13,32 @@ use Rattle.format.specs.Bytes.{digit, colon, fullStop}
 use Rattle.format.specs.Limits.{maxHours}
 use Rattle.format.specs.Texts.{all, run, startsWith, isEmpty}
 use Rattle.format.specs.Numbers.{number, numberFrom}
-use Rattle.format.specs.Times.{Result, failed, got, onGot, expect, Time, field, threeValues, hoursFirst, inRange, lastSteps, timestamp, milliseconds, overHours}
+use Rattle.format.specs.Times.{Result, failed, got, onGot, missing, expect, Time, field, threeValues, hoursFirst, inRange, lastSteps, timestamp, milliseconds, overHours}
+use Rattle.format.specs.TellingTimes.{placeOf}
+use Rattle.format.specs.declared.times.TimeFault.{TimeFault}
+use Rattle.format.specs.declared.times.TimeFault.the-variants as Fault
 use Rattle.laws.proofs.Runs.{RunAt, run-at, run-all, run-end}
 use Rattle.laws.proofs.Tests.{by-test, and-left, and-right}
 use Rattle.values.specs.declared.times.Field.the-variants as Field
-use Rattle.values.specs.declared.times.Stamp.the-variants as Stamp
+use Rattle.format.specs.declared.times.Stamp.the-variants as Stamp
 use Rattle.values.specs.Numbers.{cap}
+use Rattle.values.proofs.StepLaws.{Unread, place-is}
 use Rattle.values.proofs.NumberLaws.{ltb-held, is-empty-not}
 use Rattle.values.specs.Times.{fieldIs, stampIs, capped}
 
 -- a test, and what follows it
-holds-then : {B : Type 0} (t : Bool) (s : List ℕ) (f : Unit {0} → List ℕ → Result B) → onGot (cond t (got tt s) failed) f ≡ cond t (f tt s) failed
+holds-then :
+    {B : Type 0} (g : TimeFault) (t : Bool) (s : List ℕ) (f : Unit {0} → List ℕ → Result B) → onGot (cond t (got tt s) (failed g s)) f ≡ cond t (f tt s) (failed g s)
 unfolding onGot
-holds-then true s f = refl
-holds-then false s f = refl
-
--- where the code stands, from what is left
-pub place-is : (s : List ℕ) (i : ℕ) → i ≤ length s → length s - length (drop i s) ≡ i
-place-is s i h = omega (arith, length-drop i s)
+holds-then g true s f = refl
+holds-then g false s f = refl
 
 module _ (s : List ℕ) (at c n : ℕ) where
-  pub field-end : at ≡ length s → field c n (drop at s) ≡ failed
+  pub field-end : at ≡ length s → field c n (drop at s) ≡ failed (missing c) (drop at s)
   unfolding field onGot expect
   field-end e = let l : length s ≤ at = omega arith in rw (drop-of-length-le s l) refl
 
-  pub field-other : at < length s → (getD s at 0 ≡ c → ⊥) → field c n (drop at s) ≡ failed
+  pub field-other : at < length s → (getD s at 0 ≡ c → ⊥) → field c n (drop at s) ≡ failed (missing c) (drop at s)
   unfolding field onGot expect
   field-other h e = rw (drop-cons s at 0 h, ne-eqb (getD s at 0) c e)
 
@@ -47,13 +48,13 @@ module _ (s : List ℕ) (at c n : ℕ) where
 
     field-is :
         field c n (drop at s)
-        ≡ cond (eqb (end - (at + 1)) n) (got (number (take (end - (at + 1)) (drop (at + 1) s))) (drop end s)) failed
+        ≡ cond (eqb (end - (at + 1)) n) (got (number (take (end - (at + 1)) (drop (at + 1) s))) (drop end s)) (failed Fault.WrongDigitCount (drop end s))
     unfolding field onGot expect
     field-is =
         rw (drop-cons s at 0 h, eq-eqb (getD s at 0) c e, ← (add-one at), digits-length, r .past, r .bytes)
-        (holds-then (eqb (end - (at + 1)) n) (drop end s) (λ u. got (number (take (end - (at + 1)) (drop (at + 1) s)))))
+        (holds-then Fault.WrongDigitCount (eqb (end - (at + 1)) n) (drop end s) (λ u. got (number (take (end - (at + 1)) (drop (at + 1) s)))))
 
-    pub field-wrong : (end - (at + 1) ≡ n → ⊥) → field c n (drop at s) ≡ failed
+    pub field-wrong : (end - (at + 1) ≡ n → ⊥) → field c n (drop at s) ≡ failed Fault.WrongDigitCount (drop end s)
     field-wrong w = field-is ∙ rw (ne-eqb (end - (at + 1)) n w)
 
     pub field-good : end - (at + 1) ≡ n → field c n (drop at s) ≡ got (number (take (end - (at + 1)) (drop (at + 1) s))) (drop end s)
@@ -89,9 +90,13 @@ pub record FieldRead (s : List ℕ) (at c n v next : ℕ) : Type 0 where
   pub small : n ≡ 3 → value < 1_000
 
 module _ (s : List ℕ) (at c n : ℕ) (h : at ≤ length s) where
-  never : (v next : ℕ) → Field.Good v next ≡ fieldIs (length s) (field c n (drop at s)) → field c n (drop at s) ≡ failed → FieldRead s at c n v next
-  never v next q f =
-      let k : Field.Good v next ≡ Field.Bad = rw f at q in
+  never :
+      (v next : ℕ) (f : TimeFault) (r : List ℕ)
+      → Field.Good v next ≡ fieldIs (length s) (field c n (drop at s))
+      → field c n (drop at s) ≡ failed f r
+      → FieldRead s at c n v next
+  never v next f r q e =
+      let k : Field.Good v next ≡ Field.Bad f (placeOf (length s) r) = rw e at q in
       let z : _≡_ {A = ℕ} 0 1 = cc in
       absurd (omega arith)
 
@@ -119,37 +124,40 @@ module _ (s : List ℕ) (at c n : ℕ) (h : at ≤ length s) where
             rw (← (r .bytes))
             (three-digits (run digit (drop (at + 1) s)) (run-all digit (drop (at + 1) s)) (omega (arith, eqb-true (end - (at + 1)) n y, count)));
       })
-      (λ z. never v next q (field-wrong s at c n end l e r (eqb-false (end - (at + 1)) n z)))
+      (λ z. never v next _ _ q (field-wrong s at c n end l e r (eqb-false (end - (at + 1)) n z)))
 
   pub field-read : (v next : ℕ) → Field.Good v next ≡ fieldIs (length s) (field c n (drop at s)) → FieldRead s at c n v next
   field-read v next q =
       by-test (ltb at (length s))
       (λ y. by-test (eqb (getD s at 0) c)
       (λ e. field-found (ltb-true at (length s) y) (eqb-true (getD s at 0) c e) v next q)
-      (λ d. never v next q (field-other s at c n (ltb-true at (length s) y) (eqb-false (getD s at 0) c d))))
-      (λ z. never v next q (field-end s at c n (omega (arith, ltb-false at (length s) z))))
+      (λ d. never v next _ _ q (field-other s at c n (ltb-true at (length s) y) (eqb-false (getD s at 0) c d))))
+      (λ z. never v next _ _ q (field-end s at c n (omega (arith, ltb-false at (length s) z))))
 
   -- a field that was not read
-  pub field-unread : Field.Bad ≡ fieldIs (length s) (field c n (drop at s)) → field c n (drop at s) ≡ failed
-  field-unread q = go (field c n (drop at s)) refl
+  pub field-unread : (f : TimeFault) (k : ℕ) → Field.Bad f k ≡ fieldIs (length s) (field c n (drop at s)) → Unread (field c n (drop at s)) (length s) f k
+  field-unread f k q = go (field c n (drop at s)) refl
     where
-      go : (x : Result ℕ) → field c n (drop at s) ≡ x → field c n (drop at s) ≡ failed
-      go failed e = e
+      go : (x : Result ℕ) → field c n (drop at s) ≡ x → Unread (field c n (drop at s)) (length s) f k
+      go (failed g rest) e =
+          let b : Field.Bad f k ≡ Field.Bad g (placeOf (length s) rest) = rw e at q in
+          let same : f ≡ g = cc in
+          record { rest = rest; is = rw same e; place = cc }
       go (got v rest) e =
-          let k : Field.Bad ≡ Field.Good (min v cap) (length s - length rest) = rw e at q in
+          let b : Field.Bad f k ≡ Field.Good (min v cap) (placeOf (length s) rest) = rw e at q in
           let z : _≡_ {A = ℕ} 0 1 = cc in
           absurd (omega arith)
 
 -- the steps after the seconds, from the thousandths' field
 module _ (s : List ℕ) (at : ℕ) (t : Time) where
-  pub last-unread : field fullStop 3 (drop at s) ≡ failed → lastSteps t (drop at s) ≡ failed
+  pub last-unread : (f : TimeFault) (r : List ℕ) → field fullStop 3 (drop at s) ≡ failed f r → lastSteps t (drop at s) ≡ failed f r
   unfolding lastSteps onGot
-  last-unread f = rw f
+  last-unread f r e = rw e
 
   module _ (v next : ℕ) (r : FieldRead s at fullStop 3 v next) where
-    pub last-out : inRange t ≡ false → lastSteps t (drop at s) ≡ failed
+    pub last-out : inRange t ≡ false → Stamp.Bad Fault.Over59 next ≡ stampIs (length s) (lastSteps t (drop at s))
     unfolding lastSteps onGot
-    last-out o = rw (r .is, o)
+    last-out o = rw (r .is, o, place-is s next (r .inside))
 
     last-in :
         inRange t ≡ true
@@ -233,18 +241,18 @@ unfolding lastSteps onGot
 last-held n t x = go (field fullStop 3 x) refl
   where
     go : (y : Result ℕ) → field fullStop 3 x ≡ y → stampIs n (lastSteps (capped t) x) ≡ stampIs n (lastSteps t x)
-    go failed e = rw e
+    go (failed g r) e = rw e
     go (got f r) e =
         by-test (inRange t)
         (λ i. rw (e, in-range-held t, i) (stamp-held n f r t i))
         (λ o. rw (e, in-range-held t, o))
 
 -- a timestamp without a first digit
-pub stamp-no-digit : (s : List ℕ) (at : ℕ) → length (run digit (drop at s)) ≡ 0 → timestamp (drop at s) ≡ failed
+pub stamp-no-digit : (s : List ℕ) (at : ℕ) → length (run digit (drop at s)) ≡ 0 → timestamp (drop at s) ≡ failed Fault.DigitMissing (drop at s)
 unfolding timestamp onGot isEmpty
 stamp-no-digit s at z = go (run digit (drop at s)) refl z
   where
-    go : (ds : List ℕ) → run digit (drop at s) ≡ ds → length ds ≡ 0 → timestamp (drop at s) ≡ failed
+    go : (ds : List ℕ) → run digit (drop at s) ≡ ds → length ds ≡ 0 → timestamp (drop at s) ≡ failed Fault.DigitMissing (drop at s)
     go [] e l = rw e
     go (b ∷ ds) e l = absurd (omega arith)
 
@@ -270,9 +278,9 @@ module _ (s : List ℕ) (at end : ℕ) (r : RunAt digit s at end) where
     unfolding timestamp onGot
     stamp-second = rw (r .bytes, is-empty-not firstDigits (omega (arith, first-length)), r .past, r .bytes)
 
-    pub stamp-no-second : field colon 2 (drop end s) ≡ failed → timestamp (drop at s) ≡ failed
+    pub stamp-no-second : (f : TimeFault) (x : List ℕ) → field colon 2 (drop end s) ≡ failed f x → timestamp (drop at s) ≡ failed f x
     unfolding onGot
-    stamp-no-second f = stamp-second ∙ rw f
+    stamp-no-second f x e = stamp-second ∙ rw e
 
     module _ (v next : ℕ) (second : FieldRead s end colon 2 v next) where
       stamp-three : timestamp (drop at s) ≡ onGot (threeValues firstDigits (second .value) (drop next s)) lastSteps
@@ -281,10 +289,11 @@ module _ (s : List ℕ) (at end : ℕ) (r : RunAt digit s at end) where
 
       pub stamp-no-third :
           hoursFirst firstDigits || startsWith (colon ∷ []) (drop next s) ≡ true
-          → field colon 2 (drop next s) ≡ failed
-          → timestamp (drop at s) ≡ failed
+          → (f : TimeFault) (x : List ℕ)
+          → field colon 2 (drop next s) ≡ failed f x
+          → timestamp (drop at s) ≡ failed f x
       unfolding threeValues onGot
-      stamp-no-third t f = stamp-three ∙ rw (t, f)
+      stamp-no-third t f x e = stamp-three ∙ rw (t, e)
 
       pub stamp-third :
           hoursFirst firstDigits || startsWith (colon ∷ []) (drop next s) ≡ true

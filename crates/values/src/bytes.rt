@@ -1,10 +1,11 @@
 // Bytes, runs of bytes, parts of a text, and texts compared.
 use super::least;
 ghost use mathlib.Core.Path.{_≡_};
+ghost use mathlib.Core.List.{[], _∷_};
 ghost use Prim.Native.Nat.{_+_};
 ghost use lib.ListN.{length, drop};
 ghost use Rattle.format.specs.Bytes.{digit, white};
-ghost use Rattle.format.specs.Texts.{same, run, bytesAt};
+ghost use Rattle.format.specs.Texts.{same, startsWith, run, bytesAt};
 ghost use Rattle.values.specs.Runs.{passes};
 
 pub fn is_digit(b: u8) -> bool
@@ -29,6 +30,16 @@ pub fn is_white(b: u8) -> bool
         return true;
     }
     b == b'\r'
+}
+
+// Does this byte stand at `at`.
+pub fn is_at(s: &[u8], at: usize, b: u8) -> bool
+    ensures { λ r. ⌜ r ≡ startsWith (b ∷ []) (drop at (now (s .entry))) ⌝ }
+{
+    if at < s.len() {
+        return s[at] == b;
+    }
+    false
 }
 
 // What a run is made of.

@@ -1,16 +1,17 @@
-// A line read by its first letter, and printed with what was read: T a timestamp, P a percentage, N a line number, C a count of lines,
-// S cue settings, R region settings, L a timing line. Numbers are in milliseconds and millionths.
+// A line read by its first letter, and printed with what was read: T a timestamp, G what stands in a timestamp tag, P a percentage, N a line
+// number, C a count of lines, S cue settings, R region settings, L a timing line. Numbers are in milliseconds and millionths; after a time stands
+// where it ends, and where a time or a timing line fails, the number of the step and the place.
 use format::regions::Region;
 use format::rows::*;
 use format::settings::Settings;
 use format::settings::Span;
+use format::times::Stamp;
+use format::times::Timing;
+use format::times::TimingLine;
 use listing::output;
-use timing::timing_line::Timing;
-use timing::timing_line::TimingLine;
 use values::numbers::LineCount;
 use values::numbers::LineNumber;
 use values::numbers::Percentage;
-use values::times::Stamp;
 
 // Codes of what was found in a text: no number, one above its limit, a number from 0 on, one below 0.
 const FAILS: u64 = 0;
@@ -25,14 +26,6 @@ fn print_found(code: u64, n: u64) {
     output::word(b"fails,over,,-,", code);
     if FOUND <= code {
         output::digits(n);
-    }
-}
-
-fn print_time(text: &[u8]) {
-    match values::read_time(text) {
-        Stamp::Bad => print_found(FAILS, 0),
-        Stamp::Over { next: _ } => print_found(OVER, 0),
-        Stamp::At { ms, next: _ } => print_found(FOUND, ms),
     }
 }
 
@@ -71,6 +64,30 @@ fn print_line_count(text: &[u8]) {
 fn print_labelled(label: &[u8], n: u64) {
     output::print(label);
     output::digits(n);
+}
+
+// The step that failed, and where; false where none did.
+fn print_failed(told: [u64; 8]) -> bool {
+    if told[0] == 0 {
+        return false;
+    }
+    print_found(FAILS, 0);
+    print_labelled(b" ", told[0]);
+    print_labelled(b" ", told[1]);
+    true
+}
+
+fn print_time(read: Stamp) {
+    let mut told = [0u64; 8];
+    if answers::time(read, &mut told) == 5 {
+        print_found(OVER, 0);
+        return;
+    }
+    if print_failed(told) {
+        return;
+    }
+    output::digits(told[2]);
+    print_labelled(b" ", told[1]);
 }
 
 fn print_part(text: &[u8], part: Span) {
@@ -172,15 +189,23 @@ fn print_timing(text: &[u8], timing: Timing) {
     let region = timing.region;
     output::digits(timing.start);
     print_labelled(b" ", timing.end);
+    print_labelled(b" ", timing.next as u64);
     output::print(b" ");
     print_settings(text, settings, region);
 }
 
 fn print_timing_line(text: &[u8]) {
-    match timing::line_of(text, 0, text.len()) {
-        TimingLine::Bad => print_found(FAILS, 0),
-        TimingLine::Over => print_found(OVER, 0),
-        TimingLine::Good(timing) => print_timing(text, timing),
+    let read = timing::line_of(text, 0, text.len());
+    let mut told = [0u64; 8];
+    if answers::timing_line(read, &mut told) == 5 {
+        print_found(OVER, 0);
+        return;
+    }
+    if print_failed(told) {
+        return;
+    }
+    if let TimingLine::Good(timing) = read {
+        print_timing(text, timing);
     }
 }
 
@@ -207,7 +232,8 @@ fn print_region_settings(text: &[u8]) {
 
 fn run_kind(kind: u8, text: &[u8]) {
     match kind {
-        b'T' => print_time(text),
+        b'T' => print_time(values::read_time(text)),
+        b'G' => print_time(values::read_only_time(text)),
         b'P' => print_percentage(text),
         b'N' => print_line_number(text),
         b'C' => print_line_count(text),

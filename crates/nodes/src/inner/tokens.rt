@@ -4,11 +4,11 @@ use crate::kinds::is_kind;
 use crate::kinds::same_kind;
 use format::kinds::NodeKind;
 use format::settings::Span;
+use format::times::Stamp;
 use strings::inner::puts::put_collapsed;
 use strings::inner::puts::put_decoded;
 use tokenizer::Token;
 use values::names::index_of;
-use values::times::Stamp;
 ghost use mathlib.Core.Path.{_≡_};
 ghost use Prim.Native.Nat.{_≤_};
 ghost use mathlib.Core.Bool.{_||_};
@@ -85,25 +85,13 @@ fn element(text: &[u8], from: usize, to: usize, current: MaybeKind) -> Made
 fn stamp(s: &[u8]) -> Made
     ensures { λ r. ⌜ r ≡ stampMade (tagTime (now (s .entry))) ⌝ }
 {
-    match values::read_time(s) {
-        Stamp::Bad => Made::None,
-        Stamp::Over { next } => {
-            if next < s.len() {
-                Made::None
-            } else {
-                Made::Over
-            }
-        }
-        Stamp::At { ms, next: end } => {
-            if end < s.len() {
-                Made::None
-            } else {
-                Made::Node {
-                    kind: NodeKind::Timestamp,
-                    time: ms,
-                }
-            }
-        }
+    match values::read_only_time(s) {
+        Stamp::Bad { fault: _, at: _ } => Made::None,
+        Stamp::Over { next: _ } => Made::Over,
+        Stamp::At { ms, next: _ } => Made::Node {
+            kind: NodeKind::Timestamp,
+            time: ms,
+        },
     }
 }
 

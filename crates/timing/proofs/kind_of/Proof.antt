@@ -1,8 +1,7 @@
 -- `timing::kind_of` meets its contract.
 use mathlib.Core.Path.{ap, _∙_}
 use Rattle.values.proofs.CutLaws.{Cut, cut-at}
-use Rattle.format.specs.TimingLines.{timingLine}
-use Rattle.timing.specs.TimingLines.{timingLineIs, lineKind}
+use Rattle.timing.specs.TimingLines.{timedLineIs, lineKind}
 use borrow.Author.Needs.{needs}
 use Rattle.timing.proofs.kind_of.Statement.{statement}
 use Rattle.timing.proofs.kind_of.Tie as tie
@@ -28,7 +27,7 @@ read-kind-requires : tie.Need-read-kind-requires
 read-kind-requires c κs = cut (c .before) .inside
 
 returns : tie.Need-returns
-returns c = c .read-kind .ensures ∙ ap (λ p. lineKind (timingLineIs (timingLine p))) (cut (c .before .before) .part)
+returns c = c .read-kind .ensures ∙ ap (λ p. lineKind (timedLineIs p)) (cut (c .before .before) .part)
 
 pub kind-of-spec : {M : Type 1} → statement M
 kind-of-spec =

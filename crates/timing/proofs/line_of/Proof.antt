@@ -1,9 +1,8 @@
 -- `timing::line_of` meets its contract.
 use mathlib.Core.Path.{ap, _∙_}
 use Rattle.values.proofs.CutLaws.{Cut, cut-at}
-use Rattle.format.specs.TimingLines.{timingLine}
 use Rattle.values.specs.Tokens.{partOf}
-use Rattle.timing.specs.TimingLines.{timingLineIs}
+use Rattle.timing.specs.TimingLines.{timedLineIs}
 use Rattle.timing.proofs.LineLaws.{timing-told}
 use borrow.Author.Needs.{needs}
 use Rattle.timing.proofs.line_of.Statement.{statement}
@@ -33,8 +32,7 @@ returns : tie.Need-returns
 returns c =
     let found = c .before .before in
     let args = found .before .before .before .args in
-    timing-told (timingLine (partOf (args .text .now) (args .from) (args .to))) (c .read-timing-line .result)
-    (c .read-timing-line .ensures ∙ ap (λ p. timingLineIs (timingLine p)) (cut found .part))
+    timing-told (partOf (args .text .now) (args .from) (args .to)) (c .read-timing-line .result) (c .read-timing-line .ensures ∙ ap timedLineIs (cut found .part))
 
 pub line-of-spec : {M : Type 1} → statement M
 line-of-spec =

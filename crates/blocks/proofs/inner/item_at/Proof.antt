@@ -5,7 +5,6 @@ use native.Mathlib.Omega.{arith}
 use borrow.Author.Tests.{eq-eqb, ne-eqb, not-true, not-false}
 use Rattle.format.specs.Texts.{emptyPart, isEmpty}
 use Rattle.format.specs.CueSettings.{spanIs}
-use Rattle.format.specs.TimingLines.{timingLine}
 use Rattle.blocks.specs.Items.{part, afterLine, meaningAt}
 use Rattle.blocks.proofs.ItemLaws.{part-of, span-part, after-span, timed-is}
 use borrow.Author.Needs.{needs}
@@ -52,7 +51,7 @@ returns-3 c =
       not-false (head .timed) (out .if1 .left),
       eq-eqb (head .first) (head .end) (c .before .if3 .taken),
     )
-    (timed-is emptyPart (afterLine s (head .end) to) (timingLine (part s (a .from) (head .end))))
+    (timed-is emptyPart (afterLine s (head .end) to) (part s (a .from) (head .end)))
 
 add-timed-item : tie.Need-add-timed-item
 add-timed-item c = search needs
@@ -84,7 +83,7 @@ returns-4 c =
       not-false (head .timed) (out .if1 .left),
       ne-eqb (head .first) (head .end) apart,
     )
-    (timed-is (part s (a .from) (head .first)) (afterLine s (head .end) to) (timingLine (part s (head .first + 1) (head .end))))
+    (timed-is (part s (a .from) (head .first)) (afterLine s (head .end) to) (part s (head .first + 1) (head .end)))
 
 pub item-at-spec : {M : Type 1} → statement M
 item-at-spec = tie.close (tie.spec returns definition-requires returns-2 after-line-requires timed-item-requires returns-3 add-timed-item span-requires timed-item-requires-2 returns-4)

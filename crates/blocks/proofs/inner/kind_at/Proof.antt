@@ -5,8 +5,7 @@ use native.Mathlib.Omega.{arith}
 use borrow.Author.Tests.{eq-eqb, ne-eqb, not-true, not-false}
 use Rattle.format.specs.Texts.{emptyPart}
 use Rattle.format.specs.CueSettings.{spanIs}
-use Rattle.format.specs.TimingLines.{timingLine}
-use Rattle.timing.specs.TimingLines.{timingLineIs}
+use Rattle.timing.specs.TimingLines.{timedLineIs}
 use Rattle.blocks.specs.Items.{part, afterLine, meaningAt, kindIs}
 use Rattle.blocks.proofs.ItemLaws.{part-of, timed-is, kind-timed}
 use borrow.Author.Needs.{needs}
@@ -56,7 +55,7 @@ returns-4 c =
     let a = out .before .before .before .before .before .before .args in
     let s = a .s .now in
     let head = a .stop .head in
-    let line = timingLine (part s (a .from) (head .end)) in
+    let line = part s (a .from) (head .end) in
     let id = emptyPart in
     let text = afterLine s (head .end) (a .stop .to) in
     c .timed-kind .ensures
@@ -65,7 +64,7 @@ returns-4 c =
       not-false (head .timed) (out .if2 .left),
       eq-eqb (head .first) (head .end) (c .before .if4 .taken),
     )
-    (sym (kind-timed (spanIs id) (spanIs text) (timingLineIs line)) ∙ ap kindIs (timed-is id text line))
+    (sym (kind-timed (spanIs id) (spanIs text) (timedLineIs line)) ∙ ap kindIs (timed-is id text line))
 
 add-timed-kind : tie.Need-add-timed-kind
 add-timed-kind c = search needs
@@ -82,7 +81,7 @@ returns-5 c =
     let s = a .s .now in
     let head = a .stop .head in
     let apart = other .if4 .left in
-    let line = timingLine (part s (head .first + 1) (head .end)) in
+    let line = part s (head .first + 1) (head .end) in
     let id = part s (a .from) (head .first) in
     let text = afterLine s (head .end) (a .stop .to) in
     c .timed-kind2 .ensures
@@ -91,7 +90,7 @@ returns-5 c =
       not-false (head .timed) (out .if2 .left),
       ne-eqb (head .first) (head .end) apart,
     )
-    (sym (kind-timed (spanIs id) (spanIs text) (timingLineIs line)) ∙ ap kindIs (timed-is id text line))
+    (sym (kind-timed (spanIs id) (spanIs text) (timedLineIs line)) ∙ ap kindIs (timed-is id text line))
 
 pub kind-at-spec : {M : Type 1} → statement M
 kind-at-spec =

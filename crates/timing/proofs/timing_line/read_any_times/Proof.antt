@@ -2,12 +2,12 @@
 use mathlib.Core.Path.{_≡_, sym, ap, _∙_}
 use native.Mathlib.Omega.{arith}
 use mathlib.Core.Bool.{true, false, true≢false}
-use lib.ListN.{length}
 use Rattle.format.specs.Bytes.{white}
 use Rattle.format.specs.Times.{Time, timestamp, milliseconds, overHours}
 use Rattle.laws.proofs.Runs.{RunAt, run-at}
-use Rattle.values.proofs.StepLaws.{StampRead, steady-timestamp, stamp-bad, stamp-over, stamp-at}
-use Rattle.timing.specs.TimingLines.{bothIs, timesIs}
+use Rattle.laws.proofs.TimeSteps.{time-steps}
+use Rattle.values.proofs.StepLaws.{StampRead, stamp-bad, stamp-over, stamp-at}
+use Rattle.timing.specs.TimingLines.{bothIs}
 use Rattle.timing.proofs.LineLaws.{times-none, times-are}
 use borrow.Author.Needs.{needs}
 use Rattle.timing.proofs.timing_line.read_any_times.Statement.{statement}
@@ -23,8 +23,8 @@ whites c = let args = c .before .before .args in run-at white (args .s .now) (ar
 read-timestamp-requires : tie.Need-read-timestamp-requires
 read-timestamp-requires c κs = search needs
 
-enum-told : tie.Need-enum-told
-enum-told c = search needs
+enum-known-fault : tie.Need-enum-known-fault
+enum-known-fault c = search needs
 
 enum-known-next : tie.Need-enum-known-next
 enum-known-next c = search needs
@@ -36,7 +36,7 @@ over :
     (t : Time) × StampRead timestamp (past .before .before .args .s .now) (past .past .result) (c .next .given .0 .0) t × (overHours t ≡ true)
 over c =
     let past = c .before .before .before in
-    stamp-over timestamp steady-timestamp (past .before .before .args .s .now) (past .past .result) (whites past .inside) (c .next .given .0 .0)
+    stamp-over _ timestamp time-steps (past .before .before .args .s .now) (past .past .result) (whites past .inside) (c .next .given .0 .0)
     (sym (c .next .given .1) ∙ c .before .before .read-timestamp .ensures)
 
 read :
@@ -45,7 +45,7 @@ read :
     (t : Time) × StampRead timestamp (past .before .before .args .s .now) (past .past .result) (c .ms .given .0 .1 .0) t × (overHours t ≡ false) × (milliseconds t ≡ c .ms .given .0 .0)
 read c =
     let past = c .before .before .before in
-    stamp-at timestamp steady-timestamp (past .before .before .args .s .now) (past .past .result) (whites past .inside) (c .ms .given .0 .0)
+    stamp-at _ timestamp time-steps (past .before .before .args .s .now) (past .past .result) (whites past .inside) (c .ms .given .0 .0)
     (c .ms .given .0 .1 .0) (sym (c .ms .given .1) ∙ c .before .before .read-timestamp .ensures)
 
 read-end-requires : tie.Need-read-end-requires
@@ -65,12 +65,15 @@ both-times-requires-2 c κs = search needs
 
 returns : tie.Need-returns
 returns c =
-    let found = c .before .before in
+    let known = c .before in
+    let found = known .before .before in
     let past = found .before in
     let args = past .before .before .args in
     let s = args .s .now in
-    let none = stamp-bad timestamp steady-timestamp s (past .past .result) (whites past .inside) (sym (c .enum-told .given .1) ∙ found .read-timestamp .ensures) in
-    sym (ap (timesIs (length s)) (times-none s (args .from) (past .past .result) (whites past) none))
+    let fault = known .fault .given .0 .0 in
+    let place = known .fault .given .0 .1 .0 in
+    times-none s (args .from) (past .past .result) (whites past) fault place
+    (stamp-bad _ timestamp time-steps s (past .past .result) (whites past .inside) fault place (sym (known .fault .given .1) ∙ found .read-timestamp .ensures))
 
 returns-2 : tie.Need-returns-2
 returns-2 c =
@@ -98,7 +101,7 @@ read-any-times-spec =
     (tie.spec
     past-requires
     read-timestamp-requires
-    enum-told
+    enum-known-fault
     enum-known-next
     read-end-requires
     both-times-requires

@@ -5,9 +5,10 @@ use Prim.Native.Nat.{_≤_}
 use lib.ListN.{length, drop}
 use Rattle.format.specs.Bytes.{white}
 use Rattle.format.specs.Times.{got}
-use Rattle.format.specs.TimingLines.{arrow}
+use Rattle.format.specs.TimingLines.{arrow, arrowAndEnd}
 use Rattle.laws.proofs.Runs.{RunAt, run-at}
 use Rattle.values.specs.Times.{stampIs}
+use Rattle.values.proofs.StepLaws.{stamp-unread}
 use Rattle.timing.proofs.LineLaws.{no-arrow, arrow-read, end-none, end-is}
 use borrow.Author.Needs.{needs}
 use Rattle.timing.proofs.timing_line.read_end.Statement.{statement}
@@ -23,8 +24,8 @@ whites c = let args = c .before .before .args in run-at white (args .s .now) (ar
 arrow-end-requires : tie.Need-arrow-end-requires
 arrow-end-requires c κs = whites c .inside
 
-enum-told : tie.Need-enum-told
-enum-told c = search needs
+enum-known-fault : tie.Need-enum-known-fault
+enum-known-fault c = search needs
 
 enum-known-next : tie.Need-enum-known-next
 enum-known-next c = search needs
@@ -55,12 +56,16 @@ read-timestamp-requires c κs = search needs
 
 returns : tie.Need-returns
 returns c =
-    let found = c .before .before in
+    let known = c .before in
+    let found = known .before .before in
     let past = found .before in
     let args = past .before .before .args in
     let s = args .s .now in
-    let none = no-arrow s (past .past .result) (whites past .inside) (sym (c .enum-told .given .1) ∙ found .arrow-end .ensures) in
-    sym (ap (stampIs (length s)) (end-none s (args .at) (past .past .result) (whites past) none))
+    let w = past .past .result in
+    let fault = known .fault .given .0 .0 in
+    let place = known .fault .given .0 .1 .0 in
+    let unread = no-arrow s w (whites past .inside) fault place (sym (known .fault .given .1) ∙ found .arrow-end .ensures) in
+    stamp-unread (arrow (drop w s)) (arrowAndEnd (drop (args .at) s)) (length s) fault place unread (end-none s (args .at) w (whites past) fault (unread .rest) (unread .is))
 
 returns-2 : tie.Need-returns-2
 returns-2 c =
@@ -78,7 +83,7 @@ read-end-spec =
     (tie.spec
     past-requires
     arrow-end-requires
-    enum-told
+    enum-known-fault
     enum-known-next
     past-requires-2
     read-timestamp-requires

@@ -2,11 +2,11 @@
 use mathlib.Core.Path.{_≡_, sym, ap, _∙_}
 use mathlib.Core.Bool.{cond}
 use Rattle.format.specs.CueSettings.{cueSettings}
-use Rattle.format.specs.TimingLines.{timingLine}
 use Rattle.values.specs.Tokens.{tokenFrom}
-use Rattle.timing.specs.TimingLines.{lineFrom, timingLineIs, lineKind}
+use Rattle.timing.specs.TimingLines.{lineFrom, timedLineIs, lineKind}
 use Rattle.timing.specs.declared.timing_line.LineKind.the-variants as LineKind
-use Rattle.timing.proofs.LineLaws.{line-is, times-inside, part-rest, kind-with}
+use Rattle.timing.proofs.LineLaws.{line-is, times-inside, kind-with}
+use Rattle.values.proofs.CutLaws.{part-rest}
 use borrow.Author.Needs.{needs}
 use Rattle.timing.proofs.timing_line.read_kind.Statement.{statement}
 use Rattle.timing.proofs.timing_line.read_kind.Tie as tie
@@ -39,21 +39,21 @@ over c =
     let s = start .args .s .now in
     let n = known .next .given .0 .1 .1 .0 in
     let inside = times-inside s (start .args .from) (start .pre) _ _ n (sym (known .next .given .1) ∙ read .read-times .ensures) in
-    sym (c .any-over .ensures ∙ ap (λ p. cueSettings p .over) (part-rest s n inside))
+    sym (c .any-over .ensures ∙ ap (λ p. cueSettings p .over) (part-rest s n (inside .1)))
 
 -- the line's kind, by them
 kind :
     (c : tie.After-any-over)
     → let known = c .before .before in
     let start = known .before .before .before .before in
-    lineKind (timingLineIs (timingLine (tokenFrom (start .args .s .now) (start .args .from))))
+    lineKind (timedLineIs (tokenFrom (start .args .s .now) (start .args .from)))
     ≡ cond (cueSettings (tokenFrom (start .args .s .now) (known .next .given .0 .1 .1 .0)) .over) LineKind.Over LineKind.Good
 kind c =
     let known = c .before .before in
     let read = known .before .before in
     let start = read .before .before in
-    let whole = ap (λ t. lineKind (lineFrom (start .args .s .now) t)) (read .read-times .ensures) ∙ ap lineKind (line-is (start .args .s .now) (start .args .from) (start .pre)) in
-    sym (rw (known .next .given .1) at whole) ∙ kind-with (start .args .s .now) (known .next .given .0 .0) (known .next .given .0 .1 .0) (known .next .given .0 .1 .1 .0)
+    let whole = ap (λ t. lineKind (lineFrom (start .args .s .now) (start .args .from) t)) (read .read-times .ensures) ∙ ap lineKind (line-is (start .args .s .now) (start .args .from) (start .pre)) in
+    sym (rw (known .next .given .1) at whole) ∙ kind-with (start .args .s .now) (start .args .from) (known .next .given .0 .0) (known .next .given .0 .1 .0) (known .next .given .0 .1 .1 .0)
 
 returns : tie.Need-returns
 returns c =
@@ -64,13 +64,13 @@ returns-2 : tie.Need-returns-2
 returns-2 c =
     let read = c .before .before in
     let start = read .before .before in
-    rw (c .enum-told .given .1) at (ap (λ t. lineKind (lineFrom (start .args .s .now) t)) (read .read-times .ensures) ∙ ap lineKind (line-is (start .args .s .now) (start .args .from) (start .pre)))
+    rw (c .enum-told .given .1) at (ap (λ t. lineKind (lineFrom (start .args .s .now) (start .args .from) t)) (read .read-times .ensures) ∙ ap lineKind (line-is (start .args .s .now) (start .args .from) (start .pre)))
 
 returns-3 : tie.Need-returns-3
 returns-3 c =
     let read = c .before .before in
     let start = read .before .before in
-    rw (c .enum-told2 .given .1) at (ap (λ t. lineKind (lineFrom (start .args .s .now) t)) (read .read-times .ensures) ∙ ap lineKind (line-is (start .args .s .now) (start .args .from) (start .pre)))
+    rw (c .enum-told2 .given .1) at (ap (λ t. lineKind (lineFrom (start .args .s .now) (start .args .from) t)) (read .read-times .ensures) ∙ ap lineKind (line-is (start .args .s .now) (start .args .from) (start .pre)))
 
 returns-4 : tie.Need-returns-4
 returns-4 c =

@@ -12,13 +12,13 @@ returns-2 c =
     let args = c .before .before .before .args in
     rw (eq-eqb (args .digits) 2 (c .before .if1 .left), lt-ltb 59 (args .first) (c .if2 .taken))
 
-is-colon-requires : tie.Need-is-colon-requires
-is-colon-requires c κs = search needs
+is-at-requires : tie.Need-is-at-requires
+is-at-requires c κs = search needs
 
 returns-3 : tie.Need-returns-3
 returns-3 c =
     let args = c .before .before .before .before .args in
-    rw (eq-eqb (args .digits) 2 (c .before .before .if1 .left), le-ltb 59 (args .first) (c .before .if2 .left)) (c .is-colon .ensures)
+    rw (eq-eqb (args .digits) 2 (c .before .before .if1 .left), le-ltb 59 (args .first) (c .before .if2 .left)) (c .is-at .ensures)
 
 pub has-hours-spec : {M : Type 1} → statement M
-has-hours-spec = tie.close (tie.spec returns returns-2 is-colon-requires returns-3)
+has-hours-spec = tie.close (tie.spec returns returns-2 is-at-requires returns-3)

@@ -1,30 +1,34 @@
 -- `values::times::read_field` meets its contract, by the steps' order.
 use Prim.Native.Nat.{_+_}
-use mathlib.Core.Path.{sym, ap}
 use native.Mathlib.Omega.{arith}
-use lib.ListN.{length}
 use borrow.Author.Needs.{needs}
 use Rattle.format.specs.Bytes.{digit}
 use Rattle.laws.proofs.Runs.{RunAt, run-at}
-use Rattle.values.specs.Times.{fieldIs}
-use Rattle.values.proofs.TimeLaws.{place-is, field-end, field-other, field-wrong, field-good}
+use Rattle.values.proofs.StepLaws.{place-is}
+use Rattle.values.proofs.TimeLaws.{field-end, field-other, field-wrong, field-good}
 use Rattle.values.proofs.times.read_field.Statement.{statement}
 use Rattle.values.proofs.times.read_field.Tie as tie
 
+missing-step-requires : tie.Need-missing-step-requires
+missing-step-requires c κs = search needs
+
 returns : tie.Need-returns
 returns c =
-    let args = c .before .before .args in
+    let args = c .before .before .before .args in
     let s = args .s .now in
-    sym (ap (fieldIs (length s)) (field-end s (args .at) (args .c) (args .n) (c .if1 .taken)))
+    rw (field-end s (args .at) (args .c) (args .n) (c .before .if1 .taken), c .missing-step .ensures, place-is s (args .at) (omega arith))
 
 shared-slice-read-if2 : tie.Need-shared-slice-read-if2
 shared-slice-read-if2 c = search needs
 
+missing-step-requires-2 : tie.Need-missing-step-requires-2
+missing-step-requires-2 c κs = search needs
+
 returns-2 : tie.Need-returns-2
 returns-2 c =
-    let args = c .before .before .before .before .args in
+    let args = c .before .before .before .before .before .args in
     let s = args .s .now in
-    sym (ap (fieldIs (length s)) (field-other s (args .at) (args .c) (args .n) (omega arith) (c .if2 .taken)))
+    rw (field-other s (args .at) (args .c) (args .n) (omega arith) (c .before .if2 .taken), c .missing-step2 .ensures, place-is s (args .at) (omega arith))
 
 add-from : tie.Need-add-from
 add-from c = search needs
@@ -46,9 +50,11 @@ returns-3 c =
     let found = c .before in
     let args = found .before .before .before .before .before .args in
     let s = args .s .now in
-    sym
-    (ap (fieldIs (length s))
-    (field-wrong s (args .at) (args .c) (args .n) (found .past .result) (omega arith) (found .before .if2 .left) (ran found) (c .if3 .taken)))
+    let run = ran found in
+    rw (
+      field-wrong s (args .at) (args .c) (args .n) (found .past .result) (omega arith) (found .before .if2 .left) run (c .if3 .taken),
+      place-is s (found .past .result) (run .inside),
+    )
 
 sub-number-of : tie.Need-sub-number-of
 sub-number-of c = search needs
@@ -75,8 +81,10 @@ pub read-field-spec : {M : Type 1} → statement M
 read-field-spec =
     tie.close
     (tie.spec
+    missing-step-requires
     returns
     shared-slice-read-if2
+    missing-step-requires-2
     returns-2
     add-from
     past-requires

@@ -1,46 +1,36 @@
 -- `nodes::inner::tokens::stamp` meets its contract.
-use Rattle.nodes.proofs.StampLaws.{stamp-bad, stamp-over-more, stamp-over, stamp-more, stamp-whole}
+use mathlib.Core.Path.{_≡_}
+use Rattle.format.specs.Trees.{tagTime}
+use Rattle.nodes.specs.Tokens.{stampMade}
+use Rattle.nodes.proofs.StampLaws.{given, stamp-given}
 use borrow.Author.Needs.{needs}
 use Rattle.nodes.proofs.inner.tokens.stamp.Statement.{statement}
 use Rattle.nodes.proofs.inner.tokens.stamp.Tie as tie
 
-read-time-requires : tie.Need-read-time-requires
-read-time-requires c κs = search needs
+read-only-time-requires : tie.Need-read-only-time-requires
+read-only-time-requires c κs = search needs
+
+-- what the tag gives
+made : (c : tie.After-read-only-time) → given (c .read-only-time .result) ≡ stampMade (tagTime (c .before .before .args .s .now))
+made c = stamp-given (c .before .before .args .s .now) (c .read-only-time .result) (c .read-only-time .ensures .0)
 
 enum-told : tie.Need-enum-told
 enum-told c = search needs
 
-enum-known-next : tie.Need-enum-known-next
-enum-known-next c = search needs
+enum-told-2 : tie.Need-enum-told-2
+enum-told-2 c = search needs
 
 enum-known-ms : tie.Need-enum-known-ms
 enum-known-ms c = search needs
 
 returns : tie.Need-returns
-returns c = stamp-bad (c .before .before .before .before .args .s .now) (c .before .before .read-time .result) (c .before .before .read-time .ensures .0) (c .enum-told .given .1)
+returns c = rw (c .enum-told .given .1) at (made (c .before .before))
 
 returns-2 : tie.Need-returns-2
-returns-2 c = stamp-over-more (c .before .before .before .before .before .before .args .s .now) (c .before .before .before .before .read-time .result) (c .before .before .before .before .read-time .ensures .0) (c .before .before .next .given .0 .0) (c .before .before .next .given .1) (c .if1 .taken)
+returns-2 c = rw (c .enum-told2 .given .1) at (made (c .before .before))
 
 returns-3 : tie.Need-returns-3
-returns-3 c = stamp-over (c .before .before .before .before .before .before .args .s .now) (c .before .before .before .before .read-time .result) (c .before .before .before .before .read-time .ensures .0) (c .before .before .next .given .0 .0) (c .before .before .next .given .1) (c .if1 .left)
-
-returns-4 : tie.Need-returns-4
-returns-4 c = stamp-more (c .before .before .before .before .before .before .args .s .now) (c .before .before .before .before .read-time .result) (c .before .before .before .before .read-time .ensures .0) (c .before .before .ms .given .0 .1 .0) (c .before .before .ms .given .0 .0) (c .before .before .ms .given .1) (c .if2 .taken)
-
-returns-5 : tie.Need-returns-5
-returns-5 c = stamp-whole (c .before .before .before .before .before .before .args .s .now) (c .before .before .before .before .read-time .result) (c .before .before .before .before .read-time .ensures .0) (c .before .before .ms .given .0 .1 .0) (c .before .before .ms .given .0 .0) (c .before .before .ms .given .1) (c .if2 .left)
+returns-3 c = rw (c .before .ms .given .1) at (made (c .before .before .before))
 
 pub stamp-spec : {M : Type 1} → statement M
-stamp-spec =
-    tie.close
-    (tie.spec
-    read-time-requires
-    enum-told
-    enum-known-next
-    enum-known-ms
-    returns
-    returns-2
-    returns-3
-    returns-4
-    returns-5)
+stamp-spec = tie.close (tie.spec read-only-time-requires enum-told enum-told-2 enum-known-ms returns returns-2 returns-3)
