@@ -18,6 +18,7 @@ ghost use Rattle.format.specs.Plain.{plainText};
 ghost use Rattle.format.specs.Lists.{lists};
 ghost use Rattle.format.specs.Rows.{regionRows, styleRows, storedCues, cueEntry};
 ghost use Rattle.format.specs.Answers.{accepted, refusalNumber, returned, withValues};
+ghost use Rattle.format.specs.TellingTimes.{timeTold, tagTimeTold, timingLineTold};
 ghost use Rattle.format.specs.Converting.{converting, convertedRoom, testing};
 ghost use Rattle.format.specs.Reading.{reading, readingRaw, fileReading, afterReading};
 ghost use Rattle.format.specs.Trees.{treeing, treeRoom, treeTable, TreeStands};
@@ -100,6 +101,35 @@ pub extern "C" fn spatz_find_region(
     ensures values { λ _. ⌜ now (values .exit) ≡ withValues 0 (returned (lookingUp (now (text .entry)) (now (regions .entry)) (now (name .entry)))) (now (values .entry)) ⌝ }
 {
     answers::region_found(lookup::find_region(text, regions, name), values)
+}
+
+// The timestamp that a text begins with. Values: 0, where it ends, and its milliseconds; or, where it cannot be read, the number of the step that
+// failed, from 1, and where the reading then stands. The hours alone are refused, by 5.
+#[no_mangle]
+pub extern "C" fn spatz_time(text: &[u8], values: &mut [u64; 8]) -> u64
+    ensures number { λ r. ⌜ r ≡ refusalNumber (timeTold (now (text .entry))) ⌝ }
+    ensures values { λ _. ⌜ now (values .exit) ≡ withValues 0 (returned (timeTold (now (text .entry)))) (now (values .entry)) ⌝ }
+{
+    answers::time(values::read_time(text), values)
+}
+
+// A text that has to be a time and nothing else, as what stands in a timestamp tag. Values as above.
+#[no_mangle]
+pub extern "C" fn spatz_tag_time(text: &[u8], values: &mut [u64; 8]) -> u64
+    ensures number { λ r. ⌜ r ≡ refusalNumber (tagTimeTold (now (text .entry))) ⌝ }
+    ensures values { λ _. ⌜ now (values .exit) ≡ withValues 0 (returned (tagTimeTold (now (text .entry)))) (now (values .entry)) ⌝ }
+{
+    answers::time(values::read_only_time(text), values)
+}
+
+// A line as a cue's timing line. Values: 0, where the end time ends, start and end in milliseconds; or the number of the step that failed, and where
+// the reading then stands. Refused by 5 where the times or a setting have a number above its limit.
+#[no_mangle]
+pub extern "C" fn spatz_timing_line(line: &[u8], values: &mut [u64; 8]) -> u64
+    ensures number { λ r. ⌜ r ≡ refusalNumber (timingLineTold (record { place = 0; bytes = now (line .entry) })) ⌝ }
+    ensures values { λ _. ⌜ now (values .exit) ≡ withValues 0 (returned (timingLineTold (record { place = 0; bytes = now (line .entry) }))) (now (values .entry)) ⌝ }
+{
+    answers::timing_line(timing::line_of(line, 0, line.len()), values)
 }
 
 // The nodes of one cue's text go to the table, their strings to `room`. Values: rows and bytes used; for 2 the bytes, for 6 the rows needed.
