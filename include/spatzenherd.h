@@ -32,6 +32,18 @@ enum spatz_refusal {
     SPATZ_OUT_TOO_SHORT = 10    /* the output room is shorter than the file: the length needed */
 };
 
+/* The step at which the reading of a time fails: the first failing one of "collect a WebVTT timestamp", and what timing lines and tags add. */
+enum spatz_step {
+    SPATZ_STEP_NONE = 0,         /* none: it reads */
+    SPATZ_DIGIT_MISSING = 1,     /* no digit stands where the time begins */
+    SPATZ_WRONG_DIGIT_COUNT = 2, /* not two digits stand after a colon, or not three after the full stop; the place is after them */
+    SPATZ_COLON_MISSING = 3,
+    SPATZ_FULL_STOP_MISSING = 4,
+    SPATZ_VALUE_OVER_59 = 5,     /* minutes or seconds; this is the last test, so the place is where the time ends */
+    SPATZ_ARROW_MISSING = 6,     /* of a timing line: the place is that of the first of the three characters that is not there */
+    SPATZ_SOMETHING_AFTER = 7    /* of a tag: something stands after the time */
+};
+
 /* The words of a cue's row. A part is from a place of the text up to another; 0, 0 for none. Times are in milliseconds. The last two are the
  * cue's lines in the file: reading stores them, and every other function takes any numbers there. */
 enum spatz_cue_word {
@@ -120,6 +132,19 @@ uint64_t spatz_text(const uint8_t *text, size_t text_length, const uint64_t (*cu
  * how many regions were looked at. */
 uint64_t spatz_find_region(const uint8_t *text, size_t text_length, const uint64_t (*regions)[SPATZ_REGION_WORDS], size_t region_rows,
                            const uint8_t *name, size_t name_length, uint64_t values[8]);
+
+/* The timestamp that a text begins with; what stands after it is not looked at. It is refused only by 5, with no values: where it reads and its
+ * hours are above 99,999. Values where it reads: SPATZ_STEP_NONE, the place where it ends, its milliseconds. Values where it does not: the step
+ * that fails, and the place where the reading then stands. Places are in bytes from 0, and all bytes before one that failed are ASCII. */
+uint64_t spatz_time(const uint8_t *text, size_t text_length, uint64_t values[8]);
+
+/* The same of a text that has to be a time and nothing else, as what stands between < and > in a cue's text. */
+uint64_t spatz_tag_time(const uint8_t *text, size_t text_length, uint64_t values[8]);
+
+/* A line, lent without its line end, as a cue's timing line. Refused only by 5, with no values: where it reads, and hours or a line number in
+ * its settings are above their limit. Values where it reads: SPATZ_STEP_NONE, the place where the end time ends, start, end. Values where it
+ * does not: as above, from the line's start also for the end time. A block whose timing line does not read gives no cue. */
+uint64_t spatz_timing_line(const uint8_t *line, size_t line_length, uint64_t values[8]);
 
 /* The nodes of one cue's text, as rows at the start of the table, their strings at the start of `room`, which never need more bytes than
  * the text has. Accepted: rows and bytes used. A refusal (1, 3, 5, 2, 6) changes neither. A text of over 786,432 bytes takes 7 MB of stack. */

@@ -83,6 +83,9 @@ mod boundary {
             name_length: usize,
             values: *mut Values,
         ) -> u64;
+        pub fn spatz_time(text: *const u8, text_length: usize, values: *mut Values) -> u64;
+        pub fn spatz_tag_time(text: *const u8, text_length: usize, values: *mut Values) -> u64;
+        pub fn spatz_timing_line(line: *const u8, line_length: usize, values: *mut Values) -> u64;
         pub fn spatz_tree(
             text: *const u8,
             text_length: usize,
@@ -209,6 +212,23 @@ pub fn text(text: &[u8], cues: &[CueRow], number: usize, values: &mut Values) ->
 /// the text's end at the latest and begins at its own end at the latest, and an empty name finds an empty identifier.
 pub fn find_region(text: &[u8], regions: &[RegionRow], name: &[u8], values: &mut Values) -> u64 {
     unsafe { boundary::spatz_find_region(text.as_ptr(), text.len(), regions.as_ptr(), regions.len(), name.as_ptr(), name.len(), values) }
+}
+
+/// The timestamp that a text begins with. Values where it reads: 0, the place where it ends, its milliseconds; where it does not: the number of
+/// the step that fails, as [`crate::TimeFault::number`] has it, and the place where the reading then stands. It is refused only by 5.
+pub fn time(text: &[u8], values: &mut Values) -> u64 {
+    unsafe { boundary::spatz_time(text.as_ptr(), text.len(), values) }
+}
+
+/// A time that is all of a text, as what stands between `<` and `>` has to be. Values and refusal as of [`time`].
+pub fn tag_time(text: &[u8], values: &mut Values) -> u64 {
+    unsafe { boundary::spatz_tag_time(text.as_ptr(), text.len(), values) }
+}
+
+/// A line without its line end as a cue's timing line. Values where it reads: 0, the place where the end time ends, start, end; where it does
+/// not: the number of the step that fails and the place where the reading then stands. It is refused only by 5.
+pub fn timing_line(line: &[u8], values: &mut Values) -> u64 {
+    unsafe { boundary::spatz_timing_line(line.as_ptr(), line.len(), values) }
 }
 
 /// The nodes of one cue's text go to the start of the table, their strings to the start of `room`. Values: rows and bytes used.
