@@ -1,5 +1,6 @@
-//! Callers in other languages and on small stacks: each replaces a cue in a file of 60 KB, and gets that file with the cue's own bytes changed.
-use spatzenherd::{lent, replace, NewCue, Tree, LONG_TEXT};
+//! Callers in other languages and on small stacks: each replaces a cue in a file of 60 KB, and gets that file with the cue's own bytes changed; and
+//! what the header says beside that.
+use spatzenherd::{lent, replace, NewCue, TimeFault, Tree, LONG_TEXT};
 use std::path::{Path, PathBuf};
 use std::process::{Command, Output};
 
@@ -71,11 +72,14 @@ fn from_rust() {
 
 /// The program of an example in C.
 fn example_in_c(name: &str) -> PathBuf {
+    program_in_c(name, &above("examples").join(name).with_extension("c"))
+}
+
+fn program_in_c(name: &str, source: &Path) -> PathBuf {
     let program = folder().join(name);
     let warnings = ["-std=c99", "-Wall", "-Wextra", "-Werror", "-pedantic", "-I"].map(std::ffi::OsStr::new);
-    let (header, example) = (above("include"), above("examples").join(name).with_extension("c"));
-    let archive = archive();
-    let files = [header.as_os_str(), "-o".as_ref(), program.as_os_str(), example.as_os_str(), archive.as_os_str()];
+    let (header, archive) = (above("include"), archive());
+    let files = [header.as_os_str(), "-o".as_ref(), program.as_os_str(), source.as_os_str(), archive.as_os_str()];
     compiled(&[warnings.as_slice(), files.as_slice()].concat());
     program
 }
@@ -107,19 +111,72 @@ fn lines_from_c() {
     }
 }
 
-/// The widths that C takes from the header are those of the rows here: nothing else would tell, since a caller in C lends what the header says.
+/// Asks about a time, a tag's time or a timing line, and prints what is handed back and the eight words.
+const TIMES_IN_C: &str = r#"
+#include <inttypes.h>
+#include <stdio.h>
+#include <string.h>
+
+#include "spatzenherd.h"
+
+int main(int argc, char **argv) {
+    const uint8_t *text = (const uint8_t *)argv[argc - 1];
+    uint64_t values[8] = {9, 9, 9, 9, 9, 9, 9, 9}, refused = 0;
+    switch (argv[1][0]) {
+    case '0': refused = spatz_time(text, strlen(argv[2]), values); break;
+    case '1': refused = spatz_tag_time(text, strlen(argv[2]), values); break;
+    case '2': refused = spatz_timing_line(text, strlen(argv[2]), values); break;
+    }
+    printf("%" PRIu64 ":", refused);
+    for (size_t word = 0; word < 8; word++)
+        printf(" %" PRIu64, values[word]);
+    return 0;
+}
+"#;
+
+/// Examples of request Q-5, one for each answer that there is.
 #[test]
-fn widths_in_c() {
+fn times_from_c() {
+    let source = folder().join("times.c");
+    std::fs::write(&source, TIMES_IN_C).expect("the program is written");
+    let program = program_in_c("times", &source);
+    for (function, text, expected) in [
+        ("0", "", "0: 1 0 9 9 9 9 9 9"),
+        ("0", "00:01.000x", "0: 0 9 1000 9 9 9 9 9"),
+        ("0", "100000:00:00.000", "5: 9 9 9 9 9 9 9 9"),
+        ("1", "00:01.000", "0: 0 9 1000 9 9 9 9 9"),
+        ("1", "00:01.000 ", "0: 7 9 9 9 9 9 9 9"),
+        ("2", "00:01.000-->00:02.000x", "0: 0 21 1000 2000 9 9 9 9"),
+        ("2", "00:01.000 --> 00:60.000 line:0", "0: 5 23 9 9 9 9 9 9"),
+        ("2", "00:01.000 --> 00:02.000 line:1000000", "5: 9 9 9 9 9 9 9 9"),
+    ] {
+        let output = Command::new(&program).args([function, text]).output().expect("it runs");
+        assert_eq!(String::from_utf8_lossy(&output.stdout), expected, "{text}");
+    }
+}
+
+/// The numbers that C takes from the header are those of the rows and of the steps here: nothing else would tell, since a caller in C lends and asks
+/// what the header says.
+#[test]
+fn numbers_in_c() {
     let header = std::fs::read_to_string(above("include/spatzenherd.h")).expect("include/spatzenherd.h");
-    for (name, words) in [
-        ("SPATZ_CUE_WORDS", lent::CUE_WORDS),
-        ("SPATZ_NEW_CUE_WORDS", lent::NEW_CUE_WORDS),
-        ("SPATZ_REGION_WORDS", lent::REGION_WORDS),
-        ("SPATZ_STYLE_WORDS", lent::STYLE_WORDS),
-        ("SPATZ_NODE_WORDS", lent::NODE_WORDS),
+    for (name, number) in [
+        ("SPATZ_CUE_WORDS", lent::CUE_WORDS as u64),
+        ("SPATZ_NEW_CUE_WORDS", lent::NEW_CUE_WORDS as u64),
+        ("SPATZ_REGION_WORDS", lent::REGION_WORDS as u64),
+        ("SPATZ_STYLE_WORDS", lent::STYLE_WORDS as u64),
+        ("SPATZ_NODE_WORDS", lent::NODE_WORDS as u64),
+        ("SPATZ_STEP_NONE", 0),
+        ("SPATZ_DIGIT_MISSING", TimeFault::DigitMissing.number()),
+        ("SPATZ_WRONG_DIGIT_COUNT", TimeFault::WrongDigitCount.number()),
+        ("SPATZ_COLON_MISSING", TimeFault::ColonMissing.number()),
+        ("SPATZ_FULL_STOP_MISSING", TimeFault::FullStopMissing.number()),
+        ("SPATZ_VALUE_OVER_59", TimeFault::ValueOver59.number()),
+        ("SPATZ_ARROW_MISSING", TimeFault::ArrowMissing.number()),
+        ("SPATZ_SOMETHING_AFTER", TimeFault::SomethingAfter.number()),
     ] {
         let value = header.split(&format!("{name} = ")).nth(1).and_then(|rest| rest.split(|c: char| !c.is_ascii_digit()).next());
-        assert_eq!(value, Some(words.to_string().as_str()), "{name}");
+        assert_eq!(value, Some(number.to_string().as_str()), "{name}");
     }
 }
 

@@ -5,7 +5,7 @@ use crate::lent::Lent;
 use crate::line_numbers::{lines, moved, written_lines};
 use crate::papers::{self, CueRow, Lists, Refusal, RegionRow, StyleRow};
 use crate::random::Random;
-use spatzenherd::lent;
+use spatzenherd::lent::{self, Values};
 use std::collections::BTreeMap;
 use std::sync::Mutex;
 
@@ -134,6 +134,20 @@ impl Case {
         }
     }
 
+    /// A text as a time, as a tag's time and as a timing line, whatever it is.
+    pub fn times(&mut self, text: &[u8]) {
+        let functions: [(&str, fn(&[u8], &mut Values) -> u64, fn(&[u8]) -> Result<Vec<u64>, Refusal>); 3] = [
+            ("time", lent::time, papers::time),
+            ("tag_time", lent::tag_time, papers::tag_time),
+            ("timing_line", lent::timing_line, papers::timing_line),
+        ];
+        for (what, found, expected) in functions {
+            let (mut values, expected) = (Lent::values(&mut self.random), expected(text));
+            let number = found(text, values.eight());
+            self.answer(what, text, number, &values, expected.as_ref().map(Vec::clone));
+        }
+    }
+
     fn write(&mut self, text: &[u8], styles: &[StyleRow], regions: &[RegionRow], cues: &[CueRow], out_length: usize) {
         let expected = papers::write(text, styles, regions, cues, out_length);
         let (mut out, mut values) = (Lent::new(out_length, &mut self.random), Lent::values(&mut self.random));
@@ -183,6 +197,9 @@ impl Case {
         {
             self.tree(text, room, rows);
         }
+        for tag in text.split(|byte| *byte == b'<').skip(1).take(20) {
+            self.times(tag.split(|byte| *byte == b'>').next().unwrap_or_default());
+        }
     }
 
     /// Everything that can be done with one file.
@@ -209,6 +226,10 @@ impl Case {
         self.read_file(raw, [text.len() + 1, cues + 1, regions.saturating_sub(1), styles + 1]);
         for row in lists.cues.iter().take(20) {
             self.tree_in_rooms(&text[row[4] as usize..row[5] as usize]);
+        }
+        self.times(raw);
+        for line in text.split(|byte| *byte == b'\n').filter(|line| papers::contains_arrow(line)).take(20) {
+            self.times(line);
         }
         self.finding(&text, &lists.regions);
         self.finding(&text, &[lists.regions.as_slice(), &lists.regions].concat());

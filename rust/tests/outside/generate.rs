@@ -279,6 +279,85 @@ fn timing_line(random: &mut Random) -> String {
     line
 }
 
+/// A time, mostly a good one: without hours, with a few, with hours around their limit, and with up to 20 digits of them.
+fn any_time(random: &mut Random) -> String {
+    let hours = match random.below(6) {
+        0 | 1 => String::new(),
+        2 => format!("{:02}:", random.below(100)),
+        3 => format!("{}{}:", "0".repeat(random.below(15)), 99_998 + random.below(4)),
+        4 => (0..=random.below(20)).map(|_| random.below(10).to_string()).collect::<String>() + ":",
+        _ => format!("{}:", random.below(1000)),
+    };
+    let sixty = |random: &mut Random| if random.once_in(10) { random.below(100) } else { random.below(60) };
+    format!("{hours}{:02}:{:02}.{:03}", sixty(random), sixty(random), random.below(1000))
+}
+
+/// One change of a time or a timing line: a byte of those that it is made of, gone, put in or in another's place; a byte doubled; more digits; a comma
+/// for a full stop; or one of the changes that files have.
+fn damage_time(random: &mut Random, text: &mut Vec<u8>) {
+    const BYTES: [&[u8]; 24] = [
+        b"0",
+        b"1",
+        b"5",
+        b"6",
+        b"9",
+        b":",
+        b":",
+        b".",
+        b".",
+        b",",
+        b",",
+        b"-",
+        b"-",
+        b">",
+        b"-->",
+        b" ",
+        b"\t",
+        b"\x0C",
+        b"\r",
+        b"\n",
+        b"\0",
+        b"/",
+        b";",
+        "\u{8A9E}".as_bytes(),
+    ];
+    let at = random.below(text.len() + 1);
+    let to = (at + 1).min(text.len());
+    match random.below(8) {
+        0 => drop(text.splice(at..to, random.of(&BYTES).iter().copied())),
+        1 => drop(text.splice(at..at, random.of(&BYTES).iter().copied())),
+        2 => drop(text.drain(at..to)),
+        3 => drop(text.splice(at..at, text[at..to].to_vec())),
+        4 => drop(text.splice(at..at, (0..random.below(20)).map(|_| b'0' + random.below(10) as u8).collect::<Vec<u8>>())),
+        5 => text.iter_mut().skip(at).filter(|byte| **byte == b'.').take(1).for_each(|byte| *byte = b','),
+        6 => text.truncate(at),
+        _ => damage(random, text),
+    }
+}
+
+/// What may stand where a time or a timing line is expected: a good one or a damaged one.
+pub fn time_or_line(random: &mut Random) -> Vec<u8> {
+    let blank = |random: &mut Random| random.of(&["", "", " ", " ", "\t", " \t ", "\x0C", "\n", "\r", "\u{A0}"]);
+    let mut text = match random.below(6) {
+        0 => any_time(random),
+        1 => any_time(random) + &word(random),
+        2 => timing_line(random),
+        // The usual form, for which the library has a way of its own.
+        3 => format!("{:02}:00:{:02}.250 --> 00:{:02}:59.999", random.below(100), random.below(61), random.below(61)),
+        _ => {
+            let settings = random.below(3);
+            let blanks = [blank(random), blank(random), blank(random), blank(random)];
+            let (start, end) = (any_time(random), any_time(random));
+            format!("{}{start}{}-->{}{end}{}{}", blanks[0], blanks[1], blanks[2], blanks[3], parted(random, settings, cue_setting))
+        }
+    }
+    .into_bytes();
+    for _ in 0..random.below(4) {
+        damage_time(random, &mut text);
+    }
+    text
+}
+
 /// A cue's text: mostly a few lines of strings and tags.
 pub fn cue_text(random: &mut Random, pieces: usize) -> String {
     let mut text = String::new();

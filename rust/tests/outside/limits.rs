@@ -4,7 +4,7 @@ use crate::papers;
 use spatzenherd::{replace, write, Cue, File, LineSpan, NewCue, Refusal, Tree, MAX_FILE, MAX_TEXT};
 
 /// A start and then one byte over and over, up to a length.
-fn filled(start: &[u8], byte: u8, length: usize) -> Vec<u8> {
+pub fn filled(start: &[u8], byte: u8, length: usize) -> Vec<u8> {
     let mut bytes = start.to_vec();
     bytes.resize(length, byte);
     bytes

@@ -6,6 +6,7 @@
 mod callers;
 mod compare;
 mod decoding;
+mod failed_times;
 mod finding;
 mod generate;
 mod lent;

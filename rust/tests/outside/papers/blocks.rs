@@ -141,7 +141,7 @@ impl Parser<'_> {
                     previous_position = self.position;
                     let identifier = joined(&buffer);
                     match collect_timings_and_settings(characters, self.input, &self.regions) {
-                        Some(timing) => {
+                        Ok(timing) => {
                             if timing.over {
                                 self.over = true;
                             }
@@ -151,7 +151,7 @@ impl Parser<'_> {
                             buffer.clear();
                             self.seen_cue = true;
                         }
-                        None => cue = None,
+                        Err(_) => cue = None,
                     }
                 } else {
                     self.position = previous_position;

@@ -18,11 +18,14 @@ mod tree;
 mod writable;
 mod written;
 
+pub use blocks::contains_arrow;
 pub use names::{between, find_region, Found};
 pub use parts::{identifier, text};
 pub use plain::{convert, first_not_plain, plain_text};
 pub use reading::read;
 pub use replacing::{replace, rewrite};
+pub use settings::timing_line;
+pub use times::{tag_time, time};
 pub use tree::tree;
 pub use written::write;
 

@@ -3,12 +3,15 @@
 use super::model::{Region, Settings, ALIGN, HORIZONTAL, HUNDRED, LINE_ALIGN, POSITION_ALIGN, VERTICAL};
 use super::names::last_region;
 use super::numbers::{is_digit, is_space, line_number, percentage, Stored};
-use super::times::{collect_timestamp, expect, Time};
+use super::times::{collect_timestamp, expect, Failed, Fault, Time};
+use super::{over_limit, Refusal};
 
 /// A timing line that reads. Where a number is above its limit, `over` is set and that number is of no use.
 pub struct Timing {
     pub start: u64,
     pub end: u64,
+    /// Where the end time ends in the line.
+    pub times_end: usize,
     pub settings: Settings,
     pub over: bool,
 }
@@ -59,8 +62,8 @@ fn skip_whitespace(input: &[u8], position: &mut usize) {
     }
 }
 
-/// None is failure. `text` is the plain text in which the identifiers of the regions stand.
-pub fn collect_timings_and_settings(input: &[u8], text: &[u8], regions: &[Region]) -> Option<Timing> {
+/// `text` is the plain text in which the identifiers of the regions stand.
+pub fn collect_timings_and_settings(input: &[u8], text: &[u8], regions: &[Region]) -> Result<Timing, Failed> {
     // 2, 3.
     let mut position = 0;
     skip_whitespace(input, &mut position);
@@ -68,14 +71,15 @@ pub fn collect_timings_and_settings(input: &[u8], text: &[u8], regions: &[Region
     let start = collect_timestamp(input, &mut position)?;
     // 5 to 8.
     skip_whitespace(input, &mut position);
-    expect(input, &mut position, b'-')?;
-    expect(input, &mut position, b'-')?;
-    expect(input, &mut position, b'>')?;
+    expect(input, &mut position, b'-', Fault::ArrowMissing)?;
+    expect(input, &mut position, b'-', Fault::ArrowMissing)?;
+    expect(input, &mut position, b'>', Fault::ArrowMissing)?;
     // 9, 10. The end time.
     skip_whitespace(input, &mut position);
     let end = collect_timestamp(input, &mut position)?;
     // 11, 12. From here on the line reads, so hours above the limit count.
-    let remainder = &input[position..];
+    let times_end = position;
+    let remainder = &input[times_end..];
     let mut over = false;
     let settings = parse_settings(remainder, text, regions, &mut over);
     let mut milliseconds = |time: Time| match time {
@@ -86,7 +90,16 @@ pub fn collect_timings_and_settings(input: &[u8], text: &[u8], regions: &[Region
         }
     };
     let (start, end) = (milliseconds(start), milliseconds(end));
-    Some(Timing { start, end, settings, over })
+    Ok(Timing { start, end, times_end, settings, over })
+}
+
+/// A line as a timing line: the step that fails and the place; or 0, where the end time ends, start and end (request Q-5).
+pub fn timing_line(line: &[u8]) -> Result<Vec<u64>, Refusal> {
+    match collect_timings_and_settings(line, b"", &[]) {
+        Err(failed) => Ok(failed.values()),
+        Ok(timing) if timing.over => Err(over_limit()),
+        Ok(timing) => Ok(vec![0, timing.times_end as u64, timing.start, timing.end]),
+    }
 }
 
 fn parse_settings(input: &[u8], text: &[u8], regions: &[Region], over: &mut bool) -> Settings {

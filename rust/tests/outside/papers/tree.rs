@@ -2,7 +2,7 @@
 
 use super::cue_text::{next_token, Token};
 use super::plain::first_not_plain;
-use super::times::{collect_timestamp, Time};
+use super::times::{whole_timestamp, Time};
 use super::{not_plain, over_limit, room_too_short, table_too_short, too_long, NodeRow, Nodes, Refusal, GREATEST_TEXT};
 
 // The kinds of nodes, by the words of their rows.
@@ -77,21 +77,11 @@ fn parse(input: &[u8]) -> (Vec<Node>, bool) {
                     current = nodes[index].parent.and_then(|parent| nodes[parent].parent);
                 }
             }
-            Token::Timestamp(value) => {
-                let mut end = 0;
-                let time = collect_timestamp(&value, &mut end);
-                // A time and nothing else.
-                if end != value.len() {
-                    continue;
-                }
-                match time {
-                    Some(Time::At(time)) => {
-                        nodes.push(Node { parent: current, kind: TIMESTAMP, classes: Vec::new(), value: Vec::new(), time });
-                    }
-                    Some(Time::OverLimit) => over = true,
-                    None => {}
-                }
-            }
+            Token::Timestamp(value) => match whole_timestamp(&value) {
+                Ok(Time::At(time)) => nodes.push(Node { parent: current, kind: TIMESTAMP, classes: Vec::new(), value: Vec::new(), time }),
+                Ok(Time::OverLimit) => over = true,
+                Err(_) => {}
+            },
         }
     }
     (nodes, over)
