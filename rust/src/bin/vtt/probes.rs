@@ -1,21 +1,19 @@
-//! Questions to the library about one piece of a file: is this a time, has this setting an effect, is this tag read. Each is put as a small file
-//! or cue text of its own, and the answer is what the library reads of it, so no rule of WebVTT stands here twice.
-use spatzenherd::{Cue, File, Kind, Refusal, Settings, Tree, Vertical};
+//! Questions to the library about one piece of a file: is this a time, has this setting an effect, is this tag read. Where the library has no
+//! function for one, it is put as a small file or cue text of its own, and the answer is what the library reads of it, so no rule of WebVTT stands
+//! here twice.
+use spatzenherd::{Cue, Failed, File, Kind, NoTime, Settings, Tree, Vertical};
 
 /// Reads times as a person gives them: milliseconds, or a time as a timing line has it.
 pub fn time(given: &str) -> Result<u64, String> {
     if !given.is_empty() && given.bytes().all(|byte| byte.is_ascii_digit()) {
         return given.parse().map_err(|_| format!("\"{given}\" milliseconds are too many"));
     }
-    let no_time = || format!("\"{given}\" is not a time; write HH:MM:SS.mmm or milliseconds");
-    if !given.bytes().all(|byte| byte.is_ascii_digit() || byte == b':' || byte == b'.') {
-        return Err(no_time());
-    }
-    let file = File::read(format!("WEBVTT\n\n{given} --> 00:00.000\n").as_bytes());
-    match file {
-        Err(Refusal::OverLimit) => Err(format!("the hours of \"{given}\" are above 99,999")),
-        file => file.ok().and_then(|file| file.cue(0).map(|cue| cue.start).ok()).ok_or_else(no_time),
-    }
+    spatzenherd::tag_time(given.as_bytes()).map_err(|no_time| match no_time {
+        NoTime::Failed(Failed { fault, place }) => {
+            format!("\"{given}\" is not a time: {fault} at character {}; write HH:MM:SS.mmm or milliseconds", place + 1)
+        }
+        NoTime::Refused(_) => format!("the hours of \"{given}\" are above 99,999"),
+    })
 }
 
 /// A setting as it stands in a line, and its place there in bytes.

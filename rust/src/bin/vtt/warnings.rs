@@ -3,7 +3,7 @@
 use super::list::{field, time};
 use super::probes::{self, Effect, Setting, Tag};
 use super::raw_lines::raw_lines;
-use spatzenherd::{Cue, File};
+use spatzenherd::{Cue, Failed, File, NoTime, TimeFault};
 use std::collections::{HashMap, HashSet};
 
 /// What is warned of.
@@ -161,8 +161,9 @@ pub fn of(raw: &[u8], file: &File, all: bool) -> Warnings {
         warnings: Warnings { all, ..Warnings::default() },
     };
     search.bytes(raw);
-    for (number, line) in failed_timing_lines(file) {
-        search.warnings.add(Kind::TimingLine, number, None, || format!("{} is not read as a timing line", shown(line)));
+    for (number, line, failed) in failed_timing_lines(file) {
+        let (number, column) = Place::of(line, number).to(failed.place);
+        search.warnings.add(Kind::TimingLine, number, column, || no_cue(line, failed));
     }
     let mut after_last = 0;
     for cue in file.cues() {
@@ -192,12 +193,24 @@ fn timing_line(cue: &Cue<&str>) -> u64 {
     cue.lines.first + !cue.identifier.is_empty() as u64
 }
 
-/// Lines with an arrow that begin no cue, with their numbers. Every line with an arrow after the first line of a file is a block's timing line, so
-/// what is no cue's has failed.
-pub fn failed_timing_lines(file: &File) -> impl Iterator<Item = (u64, &str)> {
-    let mut good = file.cues().map(|cue| timing_line(&cue)).peekable();
-    let lines = file.plain_text().split('\n').enumerate().skip(1).map(|(index, line)| (index as u64 + 1, line));
-    lines.filter(|(_, line)| line.contains("-->")).filter(move |(number, _)| good.next_if_eq(number).is_none())
+/// The timing lines that fail, each with its number, and where it fails. Every line with an arrow after the first line of a file is a block's timing
+/// line.
+pub fn failed_timing_lines(file: &File) -> impl Iterator<Item = (u64, &str, Failed)> {
+    let lines = file.plain_text().split('\n').enumerate().skip(1).filter(|(_, line)| line.contains("-->"));
+    lines.filter_map(|(index, line)| match spatzenherd::timing_line(line.as_bytes()) {
+        Err(NoTime::Failed(failed)) => Some((index as u64 + 1, line, failed)),
+        _ => None,
+    })
+}
+
+/// Why a timing line gives no cue. No time has an arrow in it, so one that stands before the place has been read, and the start time with it.
+fn no_cue(line: &str, Failed { fault, place }: Failed) -> String {
+    let part = match fault {
+        TimeFault::ArrowMissing => "after the start time",
+        _ if line[..place].contains("-->") => "in the end time",
+        _ => "in the start time",
+    };
+    format!("no cue here: {fault} {part}")
 }
 
 impl<'a> Search<'a> {
