@@ -22,4 +22,5 @@ mod readme;
 mod refusals;
 mod standard_input;
 mod terminal;
+mod timing_lines;
 mod tools;

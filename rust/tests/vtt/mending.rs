@@ -104,20 +104,32 @@ fn times_in_both_forms() {
     assert_eq!(mended(&folder, 0, &["--start=00:08.000", "--end=9000"])[START..=END], ["8000", "9000"]);
 }
 
-/// What is no time is bad usage, and the sentence says how a time is written.
+/// What is no time is bad usage, and the sentence says where it fails and how a time is written.
 #[test]
 fn what_is_no_time() {
     let folder = folder("no-times");
-    for given in ["", " ", "1.5", "1,5", "00:01", "00:01,000", "00:01.0000", "00:61.000", "0:01.000", "-1", "1s", "00:01.000 ", "1\n2", "٣"]
-    {
+    for (given, reason) in [
+        ("", "digit missing at character 1"),
+        (" ", "digit missing at character 1"),
+        ("1.5", "colon missing at character 2"),
+        ("1,5", "colon missing at character 2"),
+        ("00:01", "full stop missing at character 6"),
+        ("00:01,000", "full stop missing at character 6"),
+        ("00:01.0000", "wrong digit count at character 11"),
+        ("00:61.000", "value over 59 at character 10"),
+        ("0:01.000", "colon missing at character 5"),
+        ("-1", "digit missing at character 1"),
+        ("1s", "colon missing at character 2"),
+        ("00:01.000 ", "something after the time at character 10"),
+        ("100000:00:00.000x", "something after the time at character 17"),
+        ("1\n2", "colon missing at character 2"),
+        ("٣", "digit missing at character 1"),
+    ] {
         for option in ["--start", "--end"] {
             let sentence = folder.vtt(["mend", "a.vtt", "0", &format!("{option}={given}")]);
             assert_eq!(sentence.status, 2, "{given}");
-            assert!(
-                sentence.err.contains(&format!("{option}: \"{given}\" is not a time; write HH:MM:SS.mmm or milliseconds")),
-                "{}",
-                sentence.err
-            );
+            let told = format!("{option}: \"{given}\" is not a time: {reason}; write HH:MM:SS.mmm or milliseconds");
+            assert!(sentence.err.contains(&told), "{}", sentence.err);
         }
     }
     assert!(folder.vtt(["mend", "a.vtt", "0", "--end", "100000:00:00.000"]).failed(2).contains("above 99,999"));
