@@ -29,14 +29,10 @@ pub fn words(line: &str) -> impl Iterator<Item = Setting<'_>> {
     line.split_ascii_whitespace().map(move |word| Setting { word, place: word.as_ptr() as usize - start })
 }
 
-/// The settings of a timing line: what stands after its end time, which has only digits, colons and a full stop.
+/// The settings of a timing line: what stands after its end time.
 pub fn settings_of_line(line: &str) -> impl Iterator<Item = Setting<'_>> {
-    let after = line.find("-->").map_or(line.len(), |at| at + 3);
-    let is_time = |c: char| c.is_ascii_digit() || c == ':' || c == '.';
-    let blank = line[after..].len() - line[after..].trim_start_matches(|c: char| c.is_ascii_whitespace()).len();
-    let rest = line[after + blank..].trim_start_matches(is_time);
-    let from = line.len() - rest.len();
-    words(rest).map(move |setting| Setting { place: setting.place + from, ..setting })
+    let from = spatzenherd::timing_line(line.as_bytes()).map_or(line.len(), |times| times.ends_at);
+    words(&line[from..]).map(move |setting| Setting { place: setting.place + from, ..setting })
 }
 
 /// The region that a setting names, empty where it names none.
@@ -209,6 +205,7 @@ mod tests {
         assert_eq!(found("00:01.000 --> 00:02.000 align:left\tline:5"), [("align:left", 24), ("line:5", 35)]);
         assert_eq!(found("00:01.000-->00:02.000align:left"), [("align:left", 21)]);
         assert_eq!(found("00:01.000 --> 00:02.000 00:03.000"), [("00:03.000", 24)]);
+        assert_eq!(found("\t00:01.000 --> 00:02.000.5:7 line:5"), [(".5:7", 24), ("line:5", 29)]);
         assert_eq!(found("00:01.000 --> 00:02.000 "), []);
     }
 
