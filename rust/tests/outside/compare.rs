@@ -136,16 +136,15 @@ impl Case {
 
     /// A text as a time, as a tag's time and as a timing line, whatever it is.
     pub fn times(&mut self, text: &[u8]) {
-        let functions: [(&str, fn(&[u8], &mut Values) -> u64, fn(&[u8]) -> Result<Vec<u64>, Refusal>); 3] = [
-            ("time", lent::time, papers::time),
-            ("tag_time", lent::tag_time, papers::tag_time),
-            ("timing_line", lent::timing_line, papers::timing_line),
-        ];
-        for (what, found, expected) in functions {
-            let (mut values, expected) = (Lent::values(&mut self.random), expected(text));
-            let number = found(text, values.eight());
-            self.answer(what, text, number, &values, expected.as_ref().map(Vec::clone));
-        }
+        self.one_of_times("time", lent::time, text, papers::time(text));
+        self.one_of_times("tag_time", lent::tag_time, text, papers::tag_time(text));
+        self.one_of_times("timing_line", lent::timing_line, text, papers::timing_line(text));
+    }
+
+    fn one_of_times(&mut self, what: &str, call: fn(&[u8], &mut Values) -> u64, text: &[u8], expected: Result<Vec<u64>, Refusal>) {
+        let mut values = Lent::values(&mut self.random);
+        let number = call(text, values.eight());
+        self.answer(what, text, number, &values, expected.as_ref().cloned());
     }
 
     fn write(&mut self, text: &[u8], styles: &[StyleRow], regions: &[RegionRow], cues: &[CueRow], out_length: usize) {

@@ -167,11 +167,13 @@ const STEPS: [(&str, &[u64]); 3] = [("time", &[1, 2, 3, 4, 5]), ("tag_time", &[1
 /// How often each function came to each step: 0 where all reads, none where it is refused.
 type Steps = BTreeMap<(&'static str, Option<u64>), usize>;
 
-/// What holds of every failure: the place is inside the text, all before it is ASCII, and the step is one of the function's.
-fn failures(seed: u64, text: &[u8], steps: &mut Steps) {
+/// The functions over lent memory and the safe ones tell what the papers tell. Of every failure the place is inside the text, all before it is
+/// ASCII, and the step is one of the function's.
+fn compare(case: &mut Case, text: &[u8], steps: &mut Steps) {
+    case.times(text);
     let papers = [papers::time(text), papers::tag_time(text), papers::timing_line(text)];
     for (((function, possible), told), expected) in STEPS.into_iter().zip(all_told(text)).zip(papers) {
-        let shown = || format!("seed {seed}: {function} of {:?}", String::from_utf8_lossy(text));
+        let shown = || format!("seed {}: {function} of {:?}", case.seed, String::from_utf8_lossy(text));
         assert_eq!(told, expected.map_err(|refusal| refusal.number), "{}", shown());
         *steps.entry((function, told.as_ref().ok().map(|values| values[0]))).or_default() += 1;
         // Where all reads there are more than two values.
@@ -183,7 +185,13 @@ fn failures(seed: u64, text: &[u8], steps: &mut Steps) {
     }
 }
 
-/// Times, tags and lines with up to three changes. Lent memory is compared too.
+fn print(name: &str, steps: &Steps) {
+    let counts: Vec<String> = steps.iter().map(|((function, step), count)| format!("{function} {step:?}: {count}")).collect();
+    println!("{name}: {}", counts.join(", "));
+    println!("{name}: {} calls compared, over lent memory and safe, 0 differences", 2 * steps.values().sum::<usize>());
+}
+
+/// Times, tags and lines with up to three changes.
 #[test]
 fn damaged_times() {
     let (seed, texts) = (first_seed(), 5 * number_from("SPATZENHERD_FILES", 20_000));
@@ -192,28 +200,23 @@ fn damaged_times() {
     for seed in seed..seed + texts {
         let mut case = Case::new(seed);
         let text = time_or_line(&mut case.random).into_boxed_slice();
-        case.times(&text);
-        failures(seed, &text, &mut steps);
+        compare(&mut case, &text, &mut steps);
     }
-    let counts: Vec<String> = steps.iter().map(|((function, step), count)| format!("{function} {step:?}: {count}")).collect();
-    println!("damaged times: {}", counts.join(", "));
-    println!("damaged times: {} calls compared, over lent memory and safe, 0 differences", 2 * steps.values().sum::<usize>());
+    print("damaged times", &steps);
     for (function, possible) in STEPS {
-        for step in possible.iter().chain(&[0]) {
-            assert!(texts < 10_000 || steps.contains_key(&(function, Some(*step))), "{function}: step {step} was never met");
+        for step in [None, Some(0)].into_iter().chain(possible.iter().copied().map(Some)) {
+            assert!(texts < 10_000 || steps.contains_key(&(function, step)), "{function}: {step:?} was never met");
         }
-        assert!(texts < 10_000 || steps.contains_key(&(function, None)), "{function}: refusal 5 was never met");
     }
 }
 
-/// Every start of a good text: of each time, tag and line some step fails, or it reads.
+/// Every start of a good text.
 #[test]
 fn cut_anywhere() {
     let mut steps = Steps::new();
     for text in ["12:34:56.789", "99999:00:00.000", "100000:59:59.999x", " \t00:01.000\t --> \x0C00:00:02.500 line:1000000 align:left"] {
         for length in 0..=text.len() {
-            Case::new(0).times(&text.as_bytes()[..length]);
-            failures(0, &text.as_bytes()[..length], &mut steps);
+            compare(&mut Case::new(0), &text.as_bytes()[..length], &mut steps);
         }
     }
     assert!(steps.contains_key(&("timing_line", None)));
@@ -229,13 +232,13 @@ fn every_byte_everywhere() {
             for at in 0..line.len() {
                 let mut changed = line.to_vec();
                 changed[at] = byte;
-                failures(0, &changed, &mut steps);
+                compare(&mut Case::new(0), &changed, &mut steps);
                 changed.insert(at + 1, line[at]);
-                failures(0, &changed, &mut steps);
+                compare(&mut Case::new(0), &changed, &mut steps);
             }
         }
     }
-    println!("every byte everywhere: {} calls compared, 0 differences", steps.values().sum::<usize>());
+    print("every byte everywhere", &steps);
 }
 
 /// A block gives no cue exactly where its timing line fails, and a file without regions is refused by 5 exactly where one is refused.

@@ -84,7 +84,7 @@ fn anything_may_stand_at_the_place() {
     for (line, column, what, others) in [
         (&b"00:01.000 --> \xE5\xAD\x97"[..], 15, "digit missing in the end time", 0),
         (b"\xC2\xA000:01.000 --> 00:02.000", 1, "digit missing in the start time", 0),
-        (b"00:01\0000 --> 00:02.000", 6, "full stop missing in the start time", 1),
+        (b"00:01\x00000 --> 00:02.000", 6, "full stop missing in the start time", 1),
         (b"00:01.000 \xFF--> 00:02.000", 11, "arrow missing after the start time", 1),
         (b"00:01.0\xD9\xA30 --> 00:02.000", 8, "wrong digit count in the start time", 0),
     ] {
