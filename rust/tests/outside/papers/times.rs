@@ -34,6 +34,13 @@ pub struct Failed {
     pub place: usize,
 }
 
+impl Failed {
+    /// The values of an answer: the step's number, and the place.
+    pub fn values(self) -> Vec<u64> {
+        vec![self.fault as u64, self.place as u64]
+    }
+}
+
 fn failed<T>(fault: Fault, place: usize) -> Result<T, Failed> {
     Err(Failed { fault, place })
 }
@@ -145,13 +152,6 @@ fn told(time: Result<Time, Failed>, end: usize) -> Result<Vec<u64>, Refusal> {
         Err(failed) => Ok(failed.values()),
         Ok(Time::OverLimit) => Err(over_limit()),
         Ok(Time::At(milliseconds)) => Ok(vec![0, end as u64, milliseconds]),
-    }
-}
-
-impl Failed {
-    /// The values of an answer: the step's number, and the place.
-    pub fn values(self) -> Vec<u64> {
-        vec![self.fault as u64, self.place as u64]
     }
 }
 
