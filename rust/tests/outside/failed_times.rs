@@ -1,7 +1,7 @@
 //! Where the reading of a time fails: the examples of request Q-5 with the answers that stand there, times and lines that are damaged in every way
 //! against the papers, what holds of every place, and the longest texts.
 use crate::compare::{first_seed, number_from, Case};
-use crate::generate::{damage, file, time_or_line};
+use crate::generate::{damage, file, time_or_line, timed_file};
 use crate::limits::filled;
 use crate::papers;
 use spatzenherd::{lent, tag_time, time, timing_line, Failed, File, Kind, NoTime, Refusal, Time, TimingLine, Tree, MAX_FILE, MAX_TEXT};
@@ -250,7 +250,7 @@ fn blocks_without_a_cue() {
     for seed in seed..seed + files {
         let mut random = Case::new(seed).random;
         let blocks = random.below(7);
-        let mut raw = file(&mut random, blocks);
+        let mut raw = if random.once_in(2) { file(&mut random, blocks) } else { timed_file(&mut random, blocks) };
         if random.once_in(4) {
             damage(&mut random, &mut raw);
         }
@@ -259,12 +259,14 @@ fn blocks_without_a_cue() {
         let numbered = text.split(|byte| *byte == b'\n').zip(1..).skip(1).filter(|(line, _)| papers::contains_arrow(line));
         let lines: Vec<(u64, Result<TimingLine, NoTime>)> = numbered.map(|(line, number)| (number, timing_line(line))).collect();
         let over = lines.iter().any(|(_, line)| matches!(line, Err(NoTime::Refused(_))));
-        let Ok(file) = File::read(&raw) else {
-            let by_5 = File::read(&raw) == Err(Refusal::OverLimit);
-            refused += usize::from(by_5 && over);
-            let regions = text.windows(6).any(|word| word == b"REGION");
-            assert!(!by_5 || over || regions, "seed {seed}: refused by 5");
-            continue;
+        let file = match File::read(&raw) {
+            Ok(file) => file,
+            Err(refusal) => {
+                let (by_5, regions) = (refusal == Refusal::OverLimit, text.windows(6).any(|word| word == b"REGION"));
+                assert!(!by_5 || over || regions, "seed {seed}: refused by 5");
+                refused += usize::from(by_5 && over);
+                continue;
+            }
         };
         let read = lines.iter().filter_map(|(number, line)| line.ok().map(|line| (*number, line.start, line.end)));
         let of_cues = file.cues().map(|cue| (cue.lines.first + u64::from(!cue.identifier.is_empty()), cue.start, cue.end));

@@ -358,6 +358,17 @@ pub fn time_or_line(random: &mut Random) -> Vec<u8> {
     text
 }
 
+/// A file of so many lines that are timing lines or nearly, in blocks of their own and not.
+pub fn timed_file(random: &mut Random, lines: usize) -> Vec<u8> {
+    let mut bytes = b"WEBVTT\n\n".to_vec();
+    for _ in 0..lines {
+        bytes.extend_from_slice(random.of(&["", "", "id\n", "a\nb\n", "STYLE\n"]).as_bytes());
+        bytes.extend_from_slice(&time_or_line(random));
+        bytes.extend_from_slice(random.of(&["\n", "\n\n", "\n\n", "\nx\n", "\r\n\r\n"]).as_bytes());
+    }
+    bytes
+}
+
 /// A cue's text: mostly a few lines of strings and tags.
 pub fn cue_text(random: &mut Random, pieces: usize) -> String {
     let mut text = String::new();
