@@ -39,7 +39,7 @@ enum spatz_step {
     SPATZ_WRONG_DIGIT_COUNT = 2, /* not two digits stand after a colon, or not three after the full stop; the place is after them */
     SPATZ_COLON_MISSING = 3,
     SPATZ_FULL_STOP_MISSING = 4,
-    SPATZ_VALUE_OVER_59 = 5,     /* minutes or seconds; this is the last test, so the place is where the time ends */
+    SPATZ_OVER_59 = 5,           /* minutes or seconds; this is the last test, so the place is where the time ends */
     SPATZ_ARROW_MISSING = 6,     /* of a timing line: the place is that of the first of the three characters that is not there */
     SPATZ_SOMETHING_AFTER = 7    /* of a tag: something stands after the time */
 };

@@ -17,7 +17,7 @@ pub enum TimeFault {
     /// 4: no full stop stands after the seconds.
     FullStopMissing,
     /// 5: minutes or seconds are above 59. This is the last test, so the place is where the time ends.
-    ValueOver59,
+    Over59,
     /// 6, of a timing line alone: no `-->` stands after the start time. The place is that of the first of its characters that is not there.
     ArrowMissing,
     /// 7, of a tag alone: something stands after the time.
@@ -30,7 +30,7 @@ const STEPS: [(TimeFault, &str); 7] = [
     (TimeFault::WrongDigitCount, "wrong digit count"),
     (TimeFault::ColonMissing, "colon missing"),
     (TimeFault::FullStopMissing, "full stop missing"),
-    (TimeFault::ValueOver59, "value over 59"),
+    (TimeFault::Over59, "value over 59"),
     (TimeFault::ArrowMissing, "arrow missing"),
     (TimeFault::SomethingAfter, "something after the time"),
 ];

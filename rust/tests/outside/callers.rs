@@ -171,7 +171,7 @@ fn numbers_in_c() {
         ("SPATZ_WRONG_DIGIT_COUNT", TimeFault::WrongDigitCount.number()),
         ("SPATZ_COLON_MISSING", TimeFault::ColonMissing.number()),
         ("SPATZ_FULL_STOP_MISSING", TimeFault::FullStopMissing.number()),
-        ("SPATZ_VALUE_OVER_59", TimeFault::ValueOver59.number()),
+        ("SPATZ_OVER_59", TimeFault::Over59.number()),
         ("SPATZ_ARROW_MISSING", TimeFault::ArrowMissing.number()),
         ("SPATZ_SOMETHING_AFTER", TimeFault::SomethingAfter.number()),
     ] {
