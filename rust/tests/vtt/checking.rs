@@ -35,17 +35,19 @@ fn warnings(folder: &Folder, name: &str) -> Vec<Place> {
     assert_eq!((done.status, done.err.as_str()), (0, ""), "{name}");
     let printed = String::from_utf8(done.out).expect("UTF-8");
     assert!(printed.starts_with(&format!("{name}: accepted: ")), "{printed}");
-    printed.lines().filter(|line| line.contains(": warning: ")).map(|line| place(name, line)).collect()
+    printed.lines().filter(|line| line.contains("; the standard: ")).map(|line| place(name, line)).collect()
 }
 
+/// A block without a cue is told as such, and every other warning with its kind.
 fn place(name: &str, line: &str) -> Place {
+    assert!(line.contains("; seen: "), "{line}");
     let rest = line.strip_prefix(&format!("{name}:")).unwrap_or_else(|| panic!("{line}"));
-    let (numbers, rest) = rest.split_once(": warning: ").expect("a warning");
+    let (numbers, kind) = match rest.split_once(": warning: ") {
+        Some((numbers, rest)) => (numbers, rest.split(':').next().expect("a kind")),
+        None => (rest.split_once(": no cue here: ").expect("a warning").0, "timing-line"),
+    };
     let mut numbers = numbers.split(':').map(|number| number.parse::<u64>().expect("a number"));
-    for part in ["; the standard: ", "; seen: "] {
-        assert!(rest.contains(part), "{line}");
-    }
-    (numbers.next().expect("a line"), numbers.next(), rest.split(':').next().expect("a kind").to_string())
+    (numbers.next().expect("a line"), numbers.next(), kind.to_string())
 }
 
 fn kind(line: u64, column: u64, kind: &str) -> Place {

@@ -29,7 +29,7 @@ fn expected(name: &str, cues: usize, failed: &[(u64, u64, &str)]) -> String {
     let mut printed = format!("{name}: accepted: {}, 0 regions, 0 styles; {}\n", plural(cues, "cue"), plural(failed.len(), "warning"));
     for (line, column, what) in failed {
         printed.push_str(&format!(
-            "{name}:{line}:{column}: warning: timing-line: no cue here: {what}; \
+            "{name}:{line}:{column}: no cue here: {what}; \
              the standard: no cue begins here, and the lines of its block are passed over; \
              seen: Chromium and VLC lose this cue, libavformat all later ones too; webvtt-py reads it where only a comma is wrong\n"
         ));
@@ -90,7 +90,7 @@ fn anything_may_stand_at_the_place() {
     ] {
         folder.write("a.vtt", [b"WEBVTT\n\n", line, b"\nx\n"].concat());
         let printed = folder.vtt(["check", "a.vtt"]).text();
-        let told = format!("a.vtt:3:{column}: warning: timing-line: no cue here: {what}; ");
+        let told = format!("a.vtt:3:{column}: no cue here: {what}; ");
         assert!(printed.contains(&told) && printed.lines().count() == 2 + others, "{printed}");
     }
 }
@@ -101,5 +101,5 @@ fn lines_that_do_not_fail() {
     let folder = Folder::new("reading");
     folder.write("a.vtt", "WEBVTT --> 00:01,000\n\n00:01.000-->00:02.000x 00:01,000 --> x\n\n\t00:03.000\t-->\t60:00:00.000\n");
     let printed = folder.vtt(["check", "a.vtt"]).text();
-    assert!(printed.starts_with("a.vtt: accepted: 2 cues, ") && !printed.contains("timing-line"), "{printed}");
+    assert!(printed.starts_with("a.vtt: accepted: 2 cues, ") && !printed.contains(": no cue here: "), "{printed}");
 }

@@ -45,7 +45,10 @@ fn on_screen(lines: String) -> String {
     if !screen::is_terminal() {
         return lines;
     }
-    let lines = harmless(&lines).replace(": warning: ", &format!(": {}: ", painted(Colour::Yellow, "warning")));
+    let mut lines = harmless(&lines).into_owned();
+    for word in ["warning", "no cue here"] {
+        lines = lines.replace(&format!(": {word}: "), &format!(": {}: ", painted(Colour::Yellow, word)));
+    }
     lines.replace(": refused ", &format!(": {} ", painted(Colour::Red, "refused")))
 }
 
@@ -96,9 +99,9 @@ fn one(name: &str, raw: &[u8], every: bool, quiet: bool, sums: &mut Sums) -> Str
     for warning in &warnings.kept {
         let column = warning.column.map_or(String::new(), |column| format!(":{column}"));
         let (standard, seen) = warning.kind.words();
-        let (line, kind, what) = (warning.line, warning.kind.name(), &warning.what);
+        let (line, label, what) = (warning.line, warning.kind.label(), &warning.what);
         let next = if screen::is_terminal() { "\n    " } else { "; " };
-        lines.push_str(&format!("{name}:{line}{column}: warning: {kind}: {what}{next}the standard: {standard}{next}seen: {seen}\n"));
+        lines.push_str(&format!("{name}:{line}{column}: {label}{what}{next}the standard: {standard}{next}seen: {seen}\n"));
     }
     for (kind, count) in warnings.left_out() {
         lines.push_str(&format!("{name}: warning: {kind}: {count} more of these; --all prints them\n"));

@@ -135,8 +135,9 @@ every cue that can be read and not be written, with its line; then a warning
 wherever the standard reads one thing and players another, or where something
 has no effect, as FILE:LINE:COLUMN: warning: KIND: what, what the standard
 says, what was seen. docs/PLAYERS.md has each kind, and which player and version
-it was seen in. Of a timing line that gives no cue, the column is where its
-reading stops. With several files, the last line is a summary.
+it was seen in. A block whose timing line fails is told as FILE:LINE:COLUMN: no
+cue here: why; the column is where the reading of its times stops. With several
+files, the last line is a summary.
 
   --strict   exit status 1 also for a warning or a cue that cannot be written
   --all      every warning; else 20 of a kind in a file, and how many more

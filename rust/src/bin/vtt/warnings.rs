@@ -72,6 +72,14 @@ impl Kind {
         KINDS[self as usize].0
     }
 
+    /// What stands before the sentence of a warning. A block that gives no cue is told as just that.
+    pub fn label(self) -> String {
+        match self {
+            Kind::TimingLine => "no cue here: ".into(),
+            kind => format!("warning: {}: ", kind.name()),
+        }
+    }
+
     /// What the standard says, and what was seen.
     pub fn words(self) -> (&'static str, &'static str) {
         (KINDS[self as usize].1, KINDS[self as usize].2)
@@ -163,7 +171,7 @@ pub fn of(raw: &[u8], file: &File, all: bool) -> Warnings {
     search.bytes(raw);
     for (number, line, failed) in failed_timing_lines(file) {
         let (number, column) = Place::of(line, number).to(failed.place);
-        search.warnings.add(Kind::TimingLine, number, column, || no_cue(line, failed));
+        search.warnings.add(Kind::TimingLine, number, column, || reason(line, failed));
     }
     let mut after_last = 0;
     for cue in file.cues() {
@@ -204,13 +212,13 @@ pub fn failed_timing_lines(file: &File) -> impl Iterator<Item = (u64, &str, Fail
 }
 
 /// Why a timing line gives no cue. No time has an arrow in it, so one that stands before the place has been read, and the start time with it.
-fn no_cue(line: &str, Failed { fault, place }: Failed) -> String {
+fn reason(line: &str, Failed { fault, place }: Failed) -> String {
     let part = match fault {
         TimeFault::ArrowMissing => "after the start time",
         _ if line[..place].contains("-->") => "in the end time",
         _ => "in the start time",
     };
-    format!("no cue here: {fault} {part}")
+    format!("{fault} {part}")
 }
 
 impl<'a> Search<'a> {
