@@ -248,6 +248,16 @@ fn worst_texts() {
     }
 }
 
+/// A text that is no time or no timing line is read as far as a step fails.
+fn worst_times() {
+    heading("Worst cases of a time", &["time", "tag's time", "timing line"]);
+    for (name, text) in samples::worst_times() {
+        let calls: [fn(&[u8], &mut lent::Values) -> u64; 3] = [lent::time, lent::tag_time, lent::timing_line];
+        let times = calls.map(|call| seconds(|| assert_eq!(call(black_box(&text), &mut [0; 8]), 0)));
+        row(name, text.len(), scanning(&text), &times);
+    }
+}
+
 /// Reading in one call, and writing what was read where it can be written.
 fn regions(letters: &str) {
     heading("Cues that name regions", &["read, in one call", "seconds", "write", "seconds"]);
@@ -273,7 +283,8 @@ fn regions(letters: &str) {
 
 fn main() {
     let chosen: Vec<String> = std::env::args().skip(1).collect();
-    let tables: [(&str, fn()); 4] = [("episodes", episodes), ("worst", worst), ("converting", converting), ("texts", worst_texts)];
+    let tables: [(&str, fn()); 5] =
+        [("episodes", episodes), ("worst", worst), ("converting", converting), ("texts", worst_texts), ("times", worst_times)];
     let run = move || match chosen.split_first() {
         Some((word, letters)) if word == "regions" => regions(&letters.concat()),
         _ => {

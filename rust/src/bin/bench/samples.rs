@@ -169,3 +169,15 @@ pub fn worst_texts() -> Vec<(&'static str, Vec<u8>)> {
         ("one string, 16 MB", of("x", MAX_FILE)),
     ]
 }
+
+/// Times and timing lines of 16 MB, as long as any of their steps can make them.
+pub fn worst_times() -> Vec<(&'static str, Vec<u8>)> {
+    let time = b"00:01.000";
+    vec![
+        ("digits", filled("", b"0")),
+        ("hours of 16 MB, and a time after them", [filled("", b"0"), b":00:00.000".to_vec()].concat()),
+        ("spaces, and a timing line after them", [filled("", b" "), [time, &b" --> "[..], time].concat()].concat()),
+        ("a time, and spaces after it", filled("00:01.000", b" ")),
+        ("a timing line, and `line:5` after it", filled("00:01.000 --> 00:02.000", b" line:5")),
+    ]
+}
