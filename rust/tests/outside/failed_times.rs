@@ -340,7 +340,8 @@ fn long_texts() {
         case.times(&text);
     }
     println!("long texts: the slowest call took {slowest:?}");
-    assert!(slowest < Duration::from_secs(1), "{slowest:?}");
+    // A tenth of a second on an idle machine; time by the square of the bytes would be hours.
+    assert!(slowest < Duration::from_secs(10), "{slowest:?}");
 }
 
 /// A failure and a refusal each have a sentence, and are errors like others.
