@@ -1,6 +1,8 @@
 // What an answer says to a caller in document 01's words: its number, 0 where it accepts, and the values that go with it. A function named after an
 // answer hands the number back and puts the values at the start of `values`; those that end with `number` hand back the number alone, for
 // programs that print it.
+#![tactic(auto)]
+
 ghost use Rattle.std.specs.Prelude.{◌≡◌, [], ◌∷◌};
 ghost use Rattle.format.specs.Answers.{refusal_number, returned, with_values};
 ghost use Rattle.format.specs.Converting.{converted_is, plainness_is};

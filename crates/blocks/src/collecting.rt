@@ -5,7 +5,7 @@ ghost use Rattle.format.specs.Texts.{starts_with};
 ghost use Rattle.blocks.specs.Collecting.{is_end, head_after, lines_from, collect_from};
 
 // Why collecting stopped.
-#[derive(Drop)]
+#[derive(Clone, Copy)]
 pub enum Why {
     EmptyLine,
     End,
@@ -24,7 +24,7 @@ pub fn is_last(why: Why) -> bool
 }
 
 // What is known of a block's first lines. Its timing line is its first line, or the second where the first has no arrow.
-#[derive(Drop)]
+#[derive(Clone, Copy)]
 pub struct Head {
     // How many of the next lines can be the timing line, taken one after the other.
     pub left: usize,
@@ -36,7 +36,7 @@ pub struct Head {
 }
 
 // Where collecting stopped.
-#[derive(Drop)]
+#[derive(Clone, Copy)]
 pub struct Stop {
     pub why: Why,
     // Where the line begins that was not taken; the text's end where there was none.

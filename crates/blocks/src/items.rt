@@ -5,7 +5,7 @@ ghost use Rattle.blocks.specs.Items.{kind_is, kind_over};
 use format::regions::Region;
 use format::settings::{Settings, Span};
 
-#[derive(Drop)]
+#[derive(Clone, Copy)]
 pub struct CueRead {
     pub id: Span,
     // In milliseconds.
@@ -17,7 +17,7 @@ pub struct CueRead {
     pub text: Span,
 }
 
-#[derive(Drop)]
+#[derive(Clone, Copy)]
 pub enum Item {
     Nothing,
     // A cue or a region with a number above its limit.
@@ -28,7 +28,7 @@ pub enum Item {
 }
 
 // What a block gives, without what that says.
-#[derive(Drop)]
+#[derive(Clone, Copy)]
 pub enum ItemKind {
     Nothing,
     Over,

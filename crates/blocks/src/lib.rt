@@ -1,4 +1,6 @@
 // The signature and the blocks of a plain text, one after the other, and what each of them gives. Every function ends in linear time.
+#![tactic(auto)]
+
 ghost use Rattle.std.specs.Prelude.{◌≡◌};
 ghost use Rattle.format.specs.Blocks.{has_signature};
 ghost use Rattle.blocks.specs.Collecting.{line_ends, header_end, next_is};
@@ -59,7 +61,7 @@ pub fn past_header(s: &[u8]) -> usize
     stop.at
 }
 
-#[derive(Drop)]
+#[derive(Clone, Copy)]
 pub enum Next {
     None,
     // A block begins here, and is collected.

@@ -1,6 +1,8 @@
 // The library's functions for callers in C and other languages: over numbers and slices alone. Each hands back document 01's number, 0 where it
 // accepts, and puts the values that go with the answer at the start of `values`, whose other words stay. What is promised is what the
 // library's own function promises.
+#![tactic(auto)]
+
 ghost use Rattle.std.specs.Prelude.{◌≡◌, ℕ, [], ◌∷◌, length, take};
 ghost use Rattle.format.specs.Plain.{plain_text};
 ghost use Rattle.format.specs.Lists.{lists};

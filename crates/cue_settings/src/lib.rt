@@ -1,4 +1,6 @@
 // A cue's settings, read from a part of a text. Any bytes and any places are taken; every function ends in linear time.
+#![tactic(auto)]
+
 ghost use Rattle.std.specs.Prelude.{◌≡◌};
 ghost use Rattle.format.specs.CueSettings.{cue_settings};
 ghost use Rattle.values.specs.Tokens.{part_of};

@@ -1,6 +1,6 @@
 // A cue's settings: one token at a time, each as what it changes.
 ghost use Rattle.std.specs.Prelude.{◌≡◌, ◌≤◌, length, drop};
-ghost use Rattle.std.proofs.Math.Option.{Option·elim};
+ghost use Rattle.std.proofs.Math.Option.{Option-elim};
 ghost use Rattle.format.specs.CueSettings.{line_at_percentage, line_counted, line_change, position_change, named, cue_settings, span_is};
 ghost use Rattle.format.specs.Bytes.{percent};
 ghost use Rattle.format.specs.Texts.{ends_with};
@@ -30,7 +30,7 @@ fn ends_with_percent(s: &[u8]) -> bool
 }
 
 fn line_percentage(place: &[u8], align: LineAlign) -> Change
-    ensures { result ≡ Option·elim (percentage place.now) Cases.Nothing (line_at_percentage align) }
+    ensures { result ≡ Option-elim (percentage place.now) Cases.Nothing (line_at_percentage align) }
 {
     match values::numbers::read_percentage(place) {
         Percentage::Bad => Change::Nothing,
@@ -99,7 +99,7 @@ fn position_change(value: &[u8], current: PositionAlign) -> Change
 }
 
 fn size_change(value: &[u8]) -> Change
-    ensures { result ≡ Option·elim (percentage value.now) Cases.Nothing Cases.Size }
+    ensures { result ≡ Option-elim (percentage value.now) Cases.Nothing Cases.Size }
 {
     match values::numbers::read_percentage(value) {
         Percentage::Bad => Change::Nothing,
@@ -137,7 +137,7 @@ fn named_change(name: &[u8], value: &[u8], settings: Settings) -> Change
 }
 
 // Settings, and whether a number was above its limit.
-#[derive(Drop)]
+#[derive(Clone, Copy)]
 pub struct CueTaken {
     pub settings: Settings,
     // The name of the region that was asked for; empty where there is none.

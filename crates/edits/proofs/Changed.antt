@@ -19,7 +19,8 @@ use Rattle.format.specs.Writable.{none_empty}
 use Rattle.format.specs.Written.{cue_lines}
 use Rattle.format.specs.Rows.{ids}
 use Rattle.format.specs.Answers.{Answer}
-use Rattle.format.specs.Replacing.{raw_lines, raw_bytes, first_line, cue_asked, region_names, new_form, new_file, with_cue, line_up_to, no_gap, after_checks}
+use Rattle.format.specs.Replacing.{raw_lines, raw_bytes, first_line, cue_asked, region_names, new_form, new_file, with_cue, line_up_to, no_gap}
+use Rattle.format.specs.Edits.{after_checks}
 use Rattle.laws.proofs.Tests.{by-test}
 use Rattle.roundtrip.proofs.Files.{ids-contents, cue_blocks_lem}
 use Rattle.replaced.proofs.RawLines.{spliced, raw_bytes-lines, lines-counted}

@@ -18,8 +18,8 @@ use Rattle.format.specs.Contents.{CueContents, Contents, contents}
 use Rattle.format.specs.Written.{cue_lines}
 use Rattle.format.specs.Answers.{Answer, accepted, refused, if_accepted, and_then, file_answer, placed}
 use Rattle.format.specs.Converting.{converting}
-use Rattle.format.specs.Replacing.{cue_asked, region_names, new_form, new_file, with_cue, unless_test, after_checks, replacing_is, replacing_text, replacing, replaced_room}
-use Rattle.format.specs.Edits.{Change, checked, changed, Answered, Leaves, EitherOrder, SameFile, SameAnswer, AnyOrder, Twice, OldCue, SameReading, PutBack}
+use Rattle.format.specs.Replacing.{cue_asked, region_names, new_form, new_file, with_cue, unless_test, replacing_is, replacing_text, replacing, replaced_room}
+use Rattle.format.specs.Edits.{after_checks, Change, checked, changed, Answered, Leaves, EitherOrder, SameFile, SameAnswer, AnyOrder, Twice, OldCue, SameReading, PutBack}
 use Rattle.format.specs.declared.rows.LineSpan.{LineSpan}
 use Rattle.laws.proofs.Answers.{front, file-made}
 use Rattle.laws.proofs.LineNumbers.{spans_length, read_lines}
@@ -54,7 +54,7 @@ module _ (next : Answer) where
   checks_then raw number t w = simp (after-cond, after_test)
 
 pub answered : Answered
-unfolding checked changed replacing replacing_text converting and_then if_accepted
+unfolding checked changed replacing replacing_text after_checks converting and_then if_accepted
 answered raw c scratch out short room =
     rw (le-ltb max_file (length raw) short, le-ltb scratch (length (plain_text raw)) room)
     (sym (checks_then (file_answer (changed raw c) out) raw c.number c.text c.row))

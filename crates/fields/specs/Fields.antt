@@ -1,6 +1,6 @@
 -- Numbers and escaped texts of fields as the code holds them: a text byte by byte, each with the place after what gives it.
 use Rattle.std.specs.Prelude.{ℕ, ◌+◌, ◌≡◌, Bool, true, false, cond, not, ◌&&◌, List, [], ◌∷◌, eqb, ltb, length}
-use Rattle.std.proofs.Math.Option.{Option, none, some, Option·elim}
+use Rattle.std.proofs.Math.Option.{Option, none, some, Option-elim}
 use Rattle.format.specs.Bytes.{ascii, backslash, digit}
 use Rattle.format.specs.Texts.{is_empty, starts_with, all}
 use Rattle.format.specs.Numbers.{number_from}
@@ -33,7 +33,7 @@ escape_is (some b) = Escape.Byte b
 -- what stands at a place: the end, a byte that stands for itself, or a backslash and a letter of a table of escapes
 abbrev pub escaped_at : (ℕ → Option ℕ) → ℕ → List ℕ → FieldStep
 escaped_at table at [] = FieldStep.Bad
-escaped_at table at (b ∷ f) = Option·elim (table b) FieldStep.Bad (λ c. FieldStep.Byte c (at + 2))
+escaped_at table at (b ∷ f) = Option-elim (table b) FieldStep.Bad (λ c. FieldStep.Byte c (at + 2))
 
 unfoldable pub step_in : (ℕ → Option ℕ) → ℕ → List ℕ → FieldStep
 step_in table at [] = FieldStep.End

@@ -1,5 +1,7 @@
 // The fields of a line, parted by tabs: where they stand, how many there are, and the numbers and escaped texts that they hold. Any bytes are
 // taken, and each answer is exactly what the definitions in `format` say of them.
+#![tactic(auto)]
+
 ghost use Rattle.std.specs.Prelude.{◌≤◌, ◌≡◌, [], get_or, drop};
 ghost use Rattle.std.proofs.Math.ListN as Lists;
 ghost use Rattle.format.specs.Fields.{fields, field_number, escapes, unescaped};
@@ -38,7 +40,7 @@ pub fn count(line: &[u8]) -> usize
     n
 }
 
-#[derive(Drop)]
+#[derive(Clone, Copy)]
 pub enum FieldNumber {
     Bad,
     Number(u64),
@@ -89,7 +91,7 @@ pub fn read_number(field: &[u8]) -> FieldNumber
 }
 
 // What a byte stands for after a backslash.
-#[derive(Drop)]
+#[derive(Clone, Copy)]
 enum Escape {
     Bad,
     Byte(u8),
@@ -107,7 +109,7 @@ fn escaped_byte(b: u8) -> Escape
 }
 
 // One byte of the text that a field stands for, and the place after what gives it.
-#[derive(Drop)]
+#[derive(Clone, Copy)]
 pub enum FieldStep {
     End,
     Bad,
@@ -140,7 +142,7 @@ pub fn step(field: &[u8], at: usize) -> FieldStep
     }
 }
 
-#[derive(Drop)]
+#[derive(Clone, Copy)]
 pub enum FieldLength {
     Bad,
     Of(usize),

@@ -1,5 +1,7 @@
 // The request and the raw file in an open file answered on standard output. It is proved that any input is taken, that it ends inside its
 // memory, and that a refusal is told by its number; what is printed is run and compared.
+#![tactic(auto)]
+
 use format::{Mending, Replacing};
 use libc::STDOUT_FILENO;
 use values::bytes::part;

@@ -1,5 +1,7 @@
 // An open file rewritten, and the answer printed on standard output. It is proved that any input is taken, and that it ends inside its
 // memory; what is printed is run and compared.
+#![tactic(auto)]
+
 use format::Rewriting;
 use format::rows::{CueRow, RegionRow, StyleRow};
 use libc::STDOUT_FILENO;

@@ -1,6 +1,6 @@
 -- Document 01, "Settings", for cues: the opening values, and each setting as what it changes in the settings read so far.
 use Rattle.std.specs.Prelude.{ℕ, ◌+◌, Bool, true, false, cond, not, ◌||◌, List, [], ◌∷◌, eqb, length}
-use Rattle.std.proofs.Math.Option.{Option, none, some, Option·elim}
+use Rattle.std.proofs.Math.Option.{Option, none, some, Option-elim}
 use Rattle.format.specs.Bytes.{ascii, comma, percent}
 use Rattle.format.specs.Texts.{Part, empty_part, is_empty, same, ends_with, before_first, after_first, has}
 use Rattle.format.specs.Numbers.{percentage, LineNumber, line_number, over_line, is_negative, millionths}
@@ -93,7 +93,7 @@ line_counted (some n) a =
 
 unfoldable pub line_aligned : List ℕ → Option LineAlign → Change
 line_aligned place none = Change.Nothing
-line_aligned place (some a) = cond (ends_with percent place) (Option·elim (percentage place) Change.Nothing (line_at_percentage a)) (line_counted (line_number place) a)
+line_aligned place (some a) = cond (ends_with percent place) (Option-elim (percentage place) Change.Nothing (line_at_percentage a)) (line_counted (line_number place) a)
 
 unfoldable pub line_change : List ℕ → LineAlign → Change
 line_change x a = line_aligned (before_first comma x) (line_align x a)
@@ -129,7 +129,7 @@ named name x s =
     (cond (same name (ascii "vertical")) (Change.Vertical (direction x s.vertical))
     (cond (same name (ascii "line")) (line_change x s.line.align)
     (cond (same name (ascii "position")) (position_change x s.position.align)
-    (cond (same name (ascii "size")) (Option·elim (percentage x) Change.Nothing Change.Size)
+    (cond (same name (ascii "size")) (Option-elim (percentage x) Change.Nothing Change.Size)
     (cond (same name (ascii "align")) (Change.Align (alignment x s.align)) Change.Nothing)))))
 
 -- one token: nothing where its first colon is missing, first or last

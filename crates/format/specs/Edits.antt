@@ -1,5 +1,5 @@
 -- One cue replaced after another: request Q-11 of document 02, "Two editors, either order". What is quoted without a name is the request's.
-use Rattle.std.specs.Prelude.{ℕ, ◌≤◌, ◌≡◌, true, false, cond, ◌≢◌, List, [], ◌∷◌, ◌++◌, leb, ltb, length, take}
+use Rattle.std.specs.Prelude.{ℕ, ◌≤◌, ◌≡◌, true, false, not, cond, ◌≢◌, List, [], ◌∷◌, ◌++◌, leb, ltb, length, take}
 use Rattle.format.specs.Limits.{max_file}
 use Rattle.format.specs.Texts.{all}
 use Rattle.format.specs.Plain.{plain_text}
@@ -11,7 +11,7 @@ use Rattle.format.specs.LineNumbers.{line_spans}
 use Rattle.format.specs.Rows.{greatest_word, region_for, entry_is, new_cue_words}
 use Rattle.format.specs.Contents.{contents}
 use Rattle.format.specs.Answers.{Answer, accepted, refused, and_then, file_answer}
-use Rattle.format.specs.Replacing.{is_there, cue_asked, region_names, new_file, with_cue, after_checks, replacing_is, replacing, replaced_room}
+use Rattle.format.specs.Replacing.{is_there, cue_asked, region_names, new_cue_fails, no_gap, unless_test, new_file, with_cue, replacing_is, replacing, replaced_room}
 use Rattle.format.specs.declared.settings.Span.{Span}
 use Rattle.format.specs.declared.Replacing.TheVariants as Replacing
 
@@ -20,6 +20,15 @@ pub record Change : Type 0 where
   pub number : ℕ
   pub text : List ℕ
   pub row : List ℕ
+
+-- the next answer where a file and a new cue pass the checks 4, 5, 7, 8, 9, in this order; else the refusal by the first that they do not
+unfoldable pub after_checks : List ℕ → ℕ → List ℕ → List ℕ → Answer → Answer
+after_checks raw number t w next =
+    cond (not (has_signature (plain_text raw))) (refused 4 [])
+    (cond (any_over (items (plain_text raw))) (refused 5 [])
+    (cond (not (ltb number (length (lists (plain_text raw)).cues))) (refused 7 (length (lists (plain_text raw)).cues ∷ []))
+    (unless_test (new_cue_fails t w (region_names (plain_text raw))) number
+    (cond (no_gap (plain_text raw) number t w) (refused 9 []) next))))
 
 -- what the checks 4, 5, 7, 8, 9 answer a change, "scratch room, output room and file length aside": no values where all pass
 unfoldable pub checked : List ℕ → Change → Answer

@@ -1,7 +1,7 @@
 -- Fields of a line, parted by tabs: numbers in decimal digits, and texts with escapes, in which neither tab nor LF stands. What is quoted is
 -- README's, of the request line of `mend`.
 use Rattle.std.specs.Prelude.{ℕ, Bool, false, cond, not, ◌&&◌, List, [], ◌∷◌, eqb, ltb, length}
-use Rattle.std.proofs.Math.Option.{Option, none, some, Option·elim}
+use Rattle.std.proofs.Math.Option.{Option, none, some, Option-elim}
 use Rattle.format.specs.Bytes.{ascii, tab, lf, backslash}
 use Rattle.format.specs.Texts.{starts_with}
 use Rattle.format.specs.Lines.{split_list_at}
@@ -24,8 +24,8 @@ escapes b =
 -- what a byte gives, after a backslash or not, before what the bytes after it give; none where it is no escape of the table
 unfoldable pub giving : (ℕ → Option ℕ) → Bool → ℕ → Option (List ℕ) → Option (List ℕ)
 giving table escaped b rest =
-    Option·elim rest none (λ text.
-    cond escaped (Option·elim (table b) none (λ c. some (c ∷ text))) (some (cond (eqb b backslash) text (b ∷ text))))
+    Option-elim rest none (λ text.
+    cond escaped (Option-elim (table b) none (λ c. some (c ∷ text))) (some (cond (eqb b backslash) text (b ∷ text))))
 
 -- a backslash that is not escaped itself opens an escape
 unfoldable pub opens : Bool → ℕ → Bool

@@ -1,6 +1,6 @@
 -- Document 01, "Settings", for regions: the opening values, each setting, and the region that a cue asks for.
 use Rattle.std.specs.Prelude.{ℕ, ◌+◌, Bool, true, false, cond, ◌||◌, ◌&&◌, List, [], ◌∷◌, ltb}
-use Rattle.std.proofs.Math.Option.{Option, none, some, Option·elim}
+use Rattle.std.proofs.Math.Option.{Option, none, some, Option-elim}
 use Rattle.format.specs.Bytes.{ascii, comma}
 use Rattle.format.specs.Limits.{max_line}
 use Rattle.format.specs.Texts.{Part, empty_part, is_empty, same, before_first, after_first, has}
@@ -86,10 +86,10 @@ point x = cond (has comma x) (point_of (percentage (before_first comma x)) (perc
 unfoldable pub region_named : List ℕ → List ℕ → RegionChange
 region_named name x =
     cond (same name (ascii "id")) RegionChange.Id
-    (cond (same name (ascii "width")) (Option·elim (percentage x) RegionChange.Nothing RegionChange.Width)
+    (cond (same name (ascii "width")) (Option-elim (percentage x) RegionChange.Nothing RegionChange.Width)
     (cond (same name (ascii "lines")) (lines_change (line_count x))
-    (cond (same name (ascii "regionanchor")) (Option·elim (point x) RegionChange.Nothing RegionChange.Anchor)
-    (cond (same name (ascii "viewportanchor")) (Option·elim (point x) RegionChange.Nothing RegionChange.Viewport)
+    (cond (same name (ascii "regionanchor")) (Option-elim (point x) RegionChange.Nothing RegionChange.Anchor)
+    (cond (same name (ascii "viewportanchor")) (Option-elim (point x) RegionChange.Nothing RegionChange.Viewport)
     (cond (same name (ascii "scroll") && same x (ascii "up")) RegionChange.Scroll RegionChange.Nothing)))))
 
 -- what one token changes: nothing where its first colon is missing, first or last

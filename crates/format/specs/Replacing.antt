@@ -137,18 +137,15 @@ unfoldable pub unless_test : Option ℕ → ℕ → Answer → Answer
 unless_test none number answer = answer
 unless_test (some test) number answer = refused 8 (2 ∷ number ∷ test ∷ [])
 
--- the next answer where a file and a new cue pass the checks 4, 5, 7, 8, 9, in this order; else the refusal by the first that they do not
-unfoldable pub after_checks : List ℕ → ℕ → List ℕ → List ℕ → Answer → Answer
-after_checks raw number t w next =
+-- what replacing answers, after converting: the checks 4, 5, 7, 8, 9, 1 (output), 10 in this order, else the new file's length
+unfoldable pub replacing_text : List ℕ → ℕ → List ℕ → List ℕ → ℕ → Answer
+replacing_text raw number t w out =
     cond (not (has_signature (plain_text raw))) (refused 4 [])
     (cond (any_over (items (plain_text raw))) (refused 5 [])
     (cond (not (ltb number (length (lists (plain_text raw)).cues))) (refused 7 (length (lists (plain_text raw)).cues ∷ []))
     (unless_test (new_cue_fails t w (region_names (plain_text raw))) number
-    (cond (no_gap (plain_text raw) number t w) (refused 9 []) next))))
-
--- what replacing answers, after converting: these checks, then 1 (output), 10, else the new file's length
-unfoldable pub replacing_text : List ℕ → ℕ → List ℕ → List ℕ → ℕ → Answer
-replacing_text raw number t w out = after_checks raw number t w (file_answer (new_file raw number t w) out)
+    (cond (no_gap (plain_text raw) number t w) (refused 9 [])
+    (file_answer (new_file raw number t w) out)))))
 
 -- the checks 1 (input), 2 are converting's, with the scratch room; the scratch room after replacing is `converted_room`
 unfoldable pub replacing : List ℕ → ℕ → List ℕ → List ℕ → ℕ → ℕ → Answer

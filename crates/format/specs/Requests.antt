@@ -1,6 +1,6 @@
 -- The request line of `mend`, and what mending answers. What is quoted is README's, of that line.
 use Rattle.std.specs.Prelude.{ℕ, ◌+◌, Bool, cond, not, ◌&&◌, ◌||◌, List, [], ◌∷◌, ◌++◌, eqb, ltb, length, get_or}
-use Rattle.std.proofs.Math.Option.{Option, none, some, bind, map, Option·elim}
+use Rattle.std.proofs.Math.Option.{Option, none, some, bind, map, Option-elim}
 use Rattle.format.specs.Limits.{max_request, max_mended}
 use Rattle.format.specs.Bytes.{ascii, lf}
 use Rattle.format.specs.Texts.{same, has, before_first, after_first}
@@ -110,12 +110,12 @@ mending input longer scratch out = map (mending_with (after_first lf input) long
 -- the output room after it, and the scratch room: both as they were where the request is bad or the file too long
 unfoldable pub mended_room : List ℕ → Bool → ℕ → List ℕ → List ℕ
 mended_room input longer scratch out =
-    Option·elim (asked input) out (λ q.
+    Option-elim (asked input) out (λ q.
     if_accepted (mending_with (after_first lf input) longer scratch (length out) q)
     (placed (new_file (after_first lf input) q.number (lent_text q) (lent_row q)) out)
     out)
 
 unfoldable pub mended_scratch : List ℕ → Bool → List ℕ → List ℕ
 mended_scratch input longer scratch =
-    Option·elim (asked input) scratch (λ q.
+    Option-elim (asked input) scratch (λ q.
     cond (too_long (after_first lf input) longer) scratch (converted_room (after_first lf input) scratch))

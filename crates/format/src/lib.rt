@@ -1,5 +1,6 @@
 // What the definitions speak of: the limits, and the answers that the public functions give.
 // The definitions themselves are in specs/; there is no algorithm here.
+#![tactic(auto)]
 
 pub mod kinds;
 pub mod regions;
@@ -16,7 +17,7 @@ pub const MAX_FILE: usize = 16_777_216;
 pub const MAX_TEXT: usize = 50_331_648;
 
 // What converting a raw file to plain text answers.
-#[derive(Drop)]
+#[derive(Clone, Copy)]
 pub enum Converted {
     // The text stands at the room's start, this many bytes long.
     Text(usize),
@@ -27,7 +28,7 @@ pub enum Converted {
 }
 
 // Whether a text is plain.
-#[derive(Drop)]
+#[derive(Clone, Copy)]
 pub enum Plainness {
     Plain,
     // Refusal 3: the first place that is not plain.
@@ -35,7 +36,7 @@ pub enum Plainness {
 }
 
 // What reading a plain text into the lent tables answers.
-#[derive(Drop)]
+#[derive(Clone, Copy)]
 pub enum Reading {
     // The lists stand at the tables' starts, with this many entries.
     Lists {
@@ -60,7 +61,7 @@ pub enum Reading {
 }
 
 // What looking up a region by its name answers.
-#[derive(Drop)]
+#[derive(Clone, Copy)]
 pub struct RegionFound {
     // The last region of that name.
     pub index: RegionIndex,
@@ -69,7 +70,7 @@ pub struct RegionFound {
 }
 
 // What converting a raw file and reading its text in one call answers.
-#[derive(Drop)]
+#[derive(Clone, Copy)]
 pub enum FileReading {
     // The lists stand at the tables' starts, with this many entries, and the text at its room's start, this many bytes long.
     Lists {
@@ -95,7 +96,7 @@ pub enum FileReading {
 }
 
 // What asking for a part of a cue answers.
-#[derive(Drop)]
+#[derive(Clone, Copy)]
 pub enum PartAnswer {
     // The part is handed back.
     Part,
@@ -106,7 +107,7 @@ pub enum PartAnswer {
 }
 
 // What writing lists to a file answers.
-#[derive(Drop)]
+#[derive(Clone, Copy)]
 pub enum Writing {
     // The file stands at the start of the output room, this many bytes long.
     File(usize),
@@ -123,7 +124,7 @@ pub enum Writing {
 }
 
 // What rewriting a raw file answers.
-#[derive(Drop)]
+#[derive(Clone, Copy)]
 pub enum Rewriting {
     // The written form of what the file reads as stands at the start of the output room, this many bytes long.
     File(usize),
@@ -154,7 +155,7 @@ pub enum Rewriting {
 }
 
 // What replacing one cue of a raw file answers.
-#[derive(Drop)]
+#[derive(Clone, Copy)]
 pub enum Replacing {
     // The new file stands at the start of the output room, this many bytes long.
     File(usize),
@@ -179,7 +180,7 @@ pub enum Replacing {
 }
 
 // What mending a raw file by a request line answers.
-#[derive(Drop)]
+#[derive(Clone, Copy)]
 pub enum Mending {
     // The line is no request, or its settings hold a number above its limit.
     BadRequest,
@@ -188,7 +189,7 @@ pub enum Mending {
 }
 
 // What reading one cue's text into nodes answers.
-#[derive(Drop)]
+#[derive(Clone, Copy)]
 pub enum Tree {
     // The nodes' rows stand at the start of the table, and their strings at the start of the room: so many rows, and so many bytes.
     Nodes { count: usize, used: usize },

@@ -5,20 +5,20 @@ ghost use Rattle.format.specs.RegionSettings.{opening_region, region_after};
 
 use super::settings::Span;
 
-#[derive(Drop)]
+#[derive(Clone, Copy)]
 pub enum Scroll {
     None,
     Up,
 }
 
 // A point of a region or of the viewport: two percentages, in millionths.
-#[derive(Drop)]
+#[derive(Clone, Copy)]
 pub struct Point {
     pub x: u64,
     pub y: u64,
 }
 
-#[derive(Drop)]
+#[derive(Clone, Copy)]
 pub struct RegionSettings {
     // A percentage, in millionths.
     pub width: u64,
@@ -28,14 +28,14 @@ pub struct RegionSettings {
     pub scroll: Scroll,
 }
 
-#[derive(Drop)]
+#[derive(Clone, Copy)]
 pub struct Region {
     pub id: Span,
     pub settings: RegionSettings,
 }
 
 // What one setting changes: its value is the identifier, or it sets something.
-#[derive(Drop)]
+#[derive(Clone, Copy)]
 pub enum RegionChange {
     Nothing,
     // A number above its limit, which is not kept.

@@ -90,13 +90,13 @@ pub const STYLE_FROM: usize = 0;
 pub const STYLE_TO: usize = 1;
 
 // A cue's region: its index in the list of regions.
-#[derive(Drop)]
+#[derive(Clone, Copy)]
 pub enum RegionIndex {
     None,
     At(u64),
 }
 
-#[derive(Drop)]
+#[derive(Clone, Copy)]
 pub struct CueEntry {
     pub id: Span,
     // In milliseconds.
@@ -108,7 +108,7 @@ pub struct CueEntry {
 }
 
 // The lines of a cue in its file: its first line's number, counted from 1, and how many there are.
-#[derive(Drop)]
+#[derive(Clone, Copy)]
 pub struct LineSpan {
     pub first: u64,
     pub count: u64,

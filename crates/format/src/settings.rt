@@ -4,7 +4,7 @@ ghost use Rattle.std.specs.Prelude.{◌≡◌, cond, eqb};
 ghost use Rattle.format.specs.CueSettings.{opening_settings, settings_after, name_after, is_over, is_horizontal, no_span};
 ghost use Rattle.format.specs.declared.settings.Change.TheVariants as Cases;
 
-#[derive(Drop)]
+#[derive(Clone, Copy)]
 pub enum Direction {
     Horizontal,
     // Vertical, growing left.
@@ -13,14 +13,14 @@ pub enum Direction {
     Lr,
 }
 
-#[derive(Drop)]
+#[derive(Clone, Copy)]
 pub enum Line {
     Auto,
     // A line number or a percentage, in millionths.
     At { negative: bool, millionths: u64 },
 }
 
-#[derive(Drop)]
+#[derive(Clone, Copy)]
 pub enum LineAlign {
     Start,
     Center,
@@ -28,21 +28,21 @@ pub enum LineAlign {
 }
 
 // The line, whether it snaps to lines (a percentage does not), and its alignment.
-#[derive(Drop)]
+#[derive(Clone, Copy)]
 pub struct LinePlace {
     pub line: Line,
     pub snap: bool,
     pub align: LineAlign,
 }
 
-#[derive(Drop)]
+#[derive(Clone, Copy)]
 pub enum Position {
     Auto,
     // A percentage, in millionths.
     At(u64),
 }
 
-#[derive(Drop)]
+#[derive(Clone, Copy)]
 pub enum PositionAlign {
     Auto,
     LineLeft,
@@ -50,13 +50,13 @@ pub enum PositionAlign {
     LineRight,
 }
 
-#[derive(Drop)]
+#[derive(Clone, Copy)]
 pub struct PositionPlace {
     pub position: Position,
     pub align: PositionAlign,
 }
 
-#[derive(Drop)]
+#[derive(Clone, Copy)]
 pub enum Align {
     Start,
     Center,
@@ -66,13 +66,13 @@ pub enum Align {
 }
 
 // Bytes of a text, from one place up to another. Where there are none, both are 0.
-#[derive(Drop)]
+#[derive(Clone, Copy)]
 pub struct Span {
     pub from: usize,
     pub to: usize,
 }
 
-#[derive(Drop)]
+#[derive(Clone, Copy)]
 pub struct Settings {
     pub vertical: Direction,
     pub line: LinePlace,
@@ -83,7 +83,7 @@ pub struct Settings {
 }
 
 // What one setting changes.
-#[derive(Drop)]
+#[derive(Clone, Copy)]
 pub enum Change {
     Nothing,
     // A number above its limit, which is not kept.

@@ -2,7 +2,7 @@
 use super::settings::{Settings, Span};
 
 // The step that fails: those of a time by request Q-5 of document 02, then the one that a timing line adds, and the one that a timestamp tag adds.
-#[derive(Drop)]
+#[derive(Clone, Copy)]
 pub enum TimeFault {
     DigitMissing,
     WrongDigitCount,
@@ -15,7 +15,7 @@ pub enum TimeFault {
 }
 
 // What reading a time answers.
-#[derive(Drop)]
+#[derive(Clone, Copy)]
 pub enum Stamp {
     // The step that failed, and where the reading then stands.
     Bad { fault: TimeFault, at: usize },
@@ -26,7 +26,7 @@ pub enum Stamp {
 }
 
 // A cue's timing line.
-#[derive(Drop)]
+#[derive(Clone, Copy)]
 pub struct Timing {
     pub start: u64,
     pub end: u64,
@@ -38,7 +38,7 @@ pub struct Timing {
 }
 
 // What reading a timing line answers.
-#[derive(Drop)]
+#[derive(Clone, Copy)]
 pub enum TimingLine {
     // It is none: the step that failed, and where, from the line's start.
     Bad { fault: TimeFault, at: usize },

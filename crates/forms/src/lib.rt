@@ -1,4 +1,6 @@
 // The written form of one cue, one region and one style text, put into an output room from a place on. Any rows are taken, over any text.
+#![tactic(auto)]
+
 ghost use Rattle.std.specs.Prelude.{◌≡◌, cond, [], ◌∷◌, ◌++◌, map, get_or};
 ghost use Rattle.format.specs.Bytes.{lf};
 ghost use Rattle.format.specs.Texts.{is_empty};

@@ -1,4 +1,6 @@
 // Prints the styles, regions and cues that a player would read of the standard input, a line each, or the refusal.
+#![tactic(auto)]
+
 use format::rows::*;
 use libc::STDIN_FILENO;
 

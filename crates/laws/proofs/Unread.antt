@@ -13,7 +13,7 @@ use Rattle.format.specs.Contents.{cue_of_entry, cue_of_row, contents_of_rows}
 use Rattle.format.specs.Writable.{cue_test1, cue_fails}
 use Rattle.format.specs.Writing.{first_in, file_of, writing}
 use Rattle.format.specs.Parts.{asking}
-use Rattle.format.specs.Replacing.{name_lent, cue_asked, new_test1, new_test6, new_cue_fails, region_names, new_form, new_file, no_gap, after_checks, replacing_text, replacing}
+use Rattle.format.specs.Replacing.{name_lent, cue_asked, new_test1, new_test6, new_cue_fails, region_names, new_form, new_file, no_gap, replacing_text, replacing}
 
 -- a row's first words are those of the row
 word_front : (n : ℕ) (w : List ℕ) (i : ℕ) → ltb i n ≡ true → word i (take n w) ≡ word i w
@@ -81,7 +81,7 @@ new_file_front raw number t w = simp (word_front 18 w)
 pub replacing_front :
     (raw : List ℕ) (number : ℕ) (t w : List ℕ) (scratch out : ℕ)
     → replacing raw number t (take 18 w) scratch out ≡ replacing raw number t w scratch out
-unfolding replacing replacing_text after_checks no_gap
+unfolding replacing replacing_text no_gap
 replacing_front raw number t w scratch out =
     let entry : new_cue_entry (take 18 w) ≡ new_cue_entry w = simp (word_front 18 w) in
     rw (new_fails_front t w (region_names (plain_text raw)), ap (cue_of_entry t) entry, new_file_front raw number t w)

@@ -1,1 +1,2 @@
 // Laws of the definitions in `format`. There is no code here: proofs/ is what other crates cite.
+#![tactic(auto)]

@@ -1,4 +1,6 @@
 // Prints on standard output what a player would read of a raw file: its styles, regions and cues, a line each, or the refusal.
+#![tactic(auto)]
+
 ghost use Rattle.std.specs.Prelude.{◌≡◌, length};
 ghost use Rattle.format.specs.Plain.{plain_text};
 ghost use Rattle.format.specs.Lists.{lists};

@@ -1,4 +1,6 @@
 // The look-up of a region by its name, among rows of the lent table. Any rows are taken, over any text, and the name may stand in another.
+#![tactic(auto)]
+
 ghost use Rattle.std.specs.Prelude.{◌≡◌, false};
 ghost use Rattle.format.specs.Texts.{same, bytes_at};
 ghost use Rattle.format.specs.Writable.{names_of};

@@ -1,4 +1,6 @@
 // One cue's text read into a flat list of nodes. Any bytes and any room and table are taken, and nothing is asked of the caller.
+#![tactic(auto)]
+
 ghost use Rattle.std.specs.Prelude.{◌≡◌, ℕ, ◌≤◌, length, take};
 ghost use Rattle.format.specs.Limits.{max_text};
 ghost use Rattle.format.specs.Trees.{tree_is, treeing, tree_room, tree_table, TreeStands};

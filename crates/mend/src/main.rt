@@ -1,4 +1,6 @@
 // Replaces one cue of the file on the standard input, as the request line before it asks, and prints the new file or the refusal.
+#![tactic(auto)]
+
 use libc::STDIN_FILENO;
 
 fn main() {

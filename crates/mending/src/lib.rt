@@ -1,5 +1,7 @@
 // One cue of a raw file replaced as a request line asks. The line stands before the file, in one input. Any input is taken; what is answered,
 // and what the rooms hold then, is what the definitions of mending say of the input, and demand 3 holds of a new file.
+#![tactic(auto)]
+
 ghost use Rattle.std.specs.Prelude.{ℕ, ◌≤◌, ◌≡◌, length, take};
 ghost use Rattle.std.proofs.Math.Option.{some};
 ghost use Rattle.format.specs.Bytes.{lf};

@@ -7,7 +7,7 @@ ghost use Rattle.nodes.specs.Tokens.{kind_is};
 use format::kinds::NodeKind;
 
 // The kind that a tag names, or the current node's; none where the name is no kind's, and of the root.
-#[derive(Drop)]
+#[derive(Clone, Copy)]
 pub enum MaybeKind {
     None,
     Is(NodeKind),

@@ -1,4 +1,6 @@
 // Prints the nodes of the cue text on the standard input, or the refusal.
+#![tactic(auto)]
+
 use format::rows::NODE_WORDS;
 use libc::STDIN_FILENO;
 

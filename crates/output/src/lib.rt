@@ -1,5 +1,7 @@
 // Bytes, numbers and times put into an output room. A room that is too short stores what fits; the place that each function hands back goes
 // on all the same, up to the first number above the greatest length of a file.
+#![tactic(auto)]
+
 ghost use Rattle.std.specs.Prelude.{◌≡◌, List, [], ◌∷◌, ℕ, ◌+◌, ◌≤◌, length, set};
 ghost use Rattle.std.proofs.lemmas.List.Edits.{sets};
 ghost use Rattle.format.specs.Limits.{max_file};

@@ -1,4 +1,6 @@
 // A cue's identifier and its text, handed back as parts of the text itself. Any text, any rows and any number are taken.
+#![tactic(auto)]
+
 ghost use Rattle.std.specs.Prelude.{◌≡◌, true, not, ltb, length};
 ghost use Rattle.format.specs.Writable.{part_plain, cue_test1};
 ghost use Rattle.format.specs.Plain.{first_not_plain};

@@ -1,4 +1,6 @@
 // Raw bytes to plain text, and the test that a text is plain. Any bytes are taken, of any length, and nothing is asked of the caller.
+#![tactic(auto)]
+
 ghost use Rattle.std.specs.Prelude.{◌≡◌, true, ◌+◌, ◌<◌, ◌≤◌, length, drop};
 ghost use Rattle.format.specs.Limits.{max_file};
 ghost use Rattle.format.specs.Plain.{drop_bom, to_plain, first_not_plain};

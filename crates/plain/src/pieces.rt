@@ -4,7 +4,7 @@ ghost use Rattle.std.proofs.lemmas.List.Edits.{sets};
 ghost use Rattle.format.specs.Bytes.{cr};
 ghost use Rattle.plain.specs.Pieces.{Stays, taken_by, put_by, size_of, Stands};
 
-#[derive(Drop)]
+#[derive(Clone, Copy)]
 pub enum Piece {
     // This many bytes stay as they are.
     Keep(usize),

@@ -7,7 +7,7 @@ ghost use Rattle.plain.specs.Pieces.{run_of};
 use super::pieces::Piece;
 
 // What the table says of a first byte: the length of its sequence (0: it begins none) and the range of its second byte.
-#[derive(Drop)]
+#[derive(Clone, Copy)]
 pub struct Lead {
     pub len: usize,
     pub low: u8,

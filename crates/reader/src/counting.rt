@@ -13,7 +13,7 @@ use blocks::items::ItemKind;
 use format::Reading;
 
 // How many entries each list has so far.
-#[derive(Drop)]
+#[derive(Clone, Copy)]
 pub struct Counts {
     pub cues: usize,
     pub regions: usize,
@@ -50,7 +50,7 @@ impl Counts {
     }
 }
 
-#[derive(Drop)]
+#[derive(Clone, Copy)]
 pub enum Tally {
     // A number is above its limit.
     Over,

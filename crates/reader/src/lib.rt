@@ -1,4 +1,6 @@
 // Reading a plain text, or a raw file, into lent tables of cues, regions and style texts. Any bytes and rooms and tables of any length are taken.
+#![tactic(auto)]
+
 ghost use Rattle.std.specs.Prelude.{◌≡◌, length};
 ghost use Rattle.format.specs.Lists.{lists};
 ghost use Rattle.format.specs.Rows.{region_rows, style_rows, stored_cues};

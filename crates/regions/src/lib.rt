@@ -1,6 +1,8 @@
 // A region's settings, read from a block's text: one token at a time, each as what it changes. Any bytes are taken.
+#![tactic(auto)]
+
 ghost use Rattle.std.specs.Prelude.{◌≡◌, cond, ◌≤◌, length};
-ghost use Rattle.std.proofs.Math.Option.{Option·elim};
+ghost use Rattle.std.proofs.Math.Option.{Option-elim};
 ghost use Rattle.format.specs.Bytes.{ascii};
 ghost use Rattle.format.specs.Texts.{same};
 ghost use Rattle.format.specs.Numbers.{percentage, line_count};
@@ -16,7 +18,7 @@ use values::names::index_of;
 use values::numbers::{LineCount, Percentage};
 use values::tokens::{NameEnd, Token};
 
-#[derive(Drop)]
+#[derive(Clone, Copy)]
 pub enum PointRead {
     Bad,
     Good(Point),
@@ -42,7 +44,7 @@ fn read_point(value: &[u8]) -> PointRead
 }
 
 fn width_change(value: &[u8]) -> RegionChange
-    ensures { result ≡ Option·elim (percentage value.now) Cases.Nothing Cases.Width }
+    ensures { result ≡ Option-elim (percentage value.now) Cases.Nothing Cases.Width }
 {
     match values::numbers::read_percentage(value) {
         Percentage::Bad => RegionChange::Nothing,
@@ -61,7 +63,7 @@ fn lines_change(value: &[u8]) -> RegionChange
 }
 
 fn anchor_change(value: &[u8]) -> RegionChange
-    ensures { result ≡ Option·elim (point value.now) Cases.Nothing Cases.Anchor }
+    ensures { result ≡ Option-elim (point value.now) Cases.Nothing Cases.Anchor }
 {
     match read_point(value) {
         PointRead::Bad => RegionChange::Nothing,
@@ -70,7 +72,7 @@ fn anchor_change(value: &[u8]) -> RegionChange
 }
 
 fn viewport_change(value: &[u8]) -> RegionChange
-    ensures { result ≡ Option·elim (point value.now) Cases.Nothing Cases.Viewport }
+    ensures { result ≡ Option-elim (point value.now) Cases.Nothing Cases.Viewport }
 {
     match read_point(value) {
         PointRead::Bad => RegionChange::Nothing,
@@ -152,7 +154,7 @@ fn is_over(change: RegionChange) -> bool
 }
 
 // A region, and whether a number was above its limit.
-#[derive(Drop)]
+#[derive(Clone, Copy)]
 pub struct RegionTaken {
     pub region: Region,
     pub over: bool,

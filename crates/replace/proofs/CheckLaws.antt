@@ -19,7 +19,7 @@ use Rattle.format.specs.Contents.{cue_of_entry}
 use Rattle.format.specs.Blocks.{has_signature}
 use Rattle.format.specs.Lists.{items, lists, any_over}
 use Rattle.format.specs.Answers.{if_accepted, file_answer}
-use Rattle.format.specs.Replacing.{new_cue_fails, region_names, new_file, no_gap, line_up_to, replacing_is, unless_test, after_checks, replacing_text}
+use Rattle.format.specs.Replacing.{new_cue_fails, region_names, new_file, no_gap, line_up_to, replacing_is, unless_test, replacing_text}
 use Rattle.format.specs.declared.Replacing.{Replacing}
 use Rattle.format.specs.declared.Replacing.TheVariants as Replacing
 use Rattle.laws.proofs.Tests.{by-test}
@@ -179,12 +179,12 @@ module _ (raw : List ℕ) (number : ℕ) (t w out : List ℕ) where
   -- the file's own refusals, in its plain text s
   module _ (s : List ℕ) (q : s ≡ plain_text raw) where
     pub no_signature : has_signature s ≡ false → Outcome new out (replacing_text raw number t w (length out)) Replacing.NoSignature out
-    unfolding replacing_text after_checks replacing_is if_accepted
+    unfolding replacing_text replacing_is if_accepted
     no_signature e = rw (rw q at e) (record { answer = refl; holds = refl })
 
     pub over_limit :
         has_signature s ≡ true → any_over (items s) ≡ true → Outcome new out (replacing_text raw number t w (length out)) Replacing.OverLimit out
-    unfolding replacing_text after_checks replacing_is if_accepted
+    unfolding replacing_text replacing_is if_accepted
     over_limit e o = rw (rw q at e, rw q at o) (record { answer = refl; holds = refl })
 
     pub file_passed :
@@ -193,5 +193,5 @@ module _ (raw : List ℕ) (number : ℕ) (t w out : List ℕ) where
         → any_over (items s) ≡ false
         → Outcome new out (counted_answer raw number t w (length out)) r room
         → Outcome new out (replacing_text raw number t w (length out)) r room
-    unfolding replacing_text after_checks counted_answer tested_answer gap_answer
+    unfolding replacing_text counted_answer tested_answer gap_answer
     file_passed e o f = rw (rw q at e, rw q at o) f

@@ -1,5 +1,7 @@
 // Replacing one cue of a raw file: the cue's own bytes are changed and nothing else. Any bytes and any numbers are taken, and nothing is
 // asked of the caller.
+#![tactic(auto)]
+
 ghost use Rattle.std.specs.Prelude.{ℕ, ◌-◌, ◌≤◌, ◌<◌, ◌≡◌, false, not, ◌&&◌, [], length, get_or, take};
 ghost use Rattle.std.proofs.Math.Option.{none};
 ghost use Rattle.format.specs.Texts.{is_empty};

@@ -17,7 +17,8 @@ use Rattle.format.specs.Lists.{items, lists, any_over}
 use Rattle.format.specs.Answers.{Answer, accepted, if_accepted, file_answer, placed}
 use Rattle.format.specs.Contents.{cue_of_entry, CueContents, contents}
 use Rattle.format.specs.LineNumbers.{cue_blocks, line_spans, LinesMoved}
-use Rattle.format.specs.Replacing.{raw_lines, first_line, last_line, own_start, own_end, cue_asked, new_cue_fails, with_region, region_names, new_form, new_file, with_cue, no_gap, unless_test, replacing_is, after_checks, replacing_text, replacing, replaced_room, Replaced}
+use Rattle.format.specs.Replacing.{raw_lines, first_line, last_line, own_start, own_end, cue_asked, new_cue_fails, with_region, region_names, new_form, new_file, with_cue, no_gap, unless_test, replacing_is, replacing_text, replacing, replaced_room, Replaced}
+use Rattle.format.specs.Edits.{after_checks}
 use Rattle.format.specs.declared.Replacing.{Replacing}
 use Rattle.format.specs.declared.Replacing.TheVariants as Replacing
 use Rattle.laws.proofs.Answers.{after_test, after-answer, front, file-made, reads-again}
@@ -67,7 +68,7 @@ pub accepts :
     (raw : List ℕ) (number : ℕ) (t w : List ℕ) (scratch out : ℕ) (vs : List ℕ)
     → replacing raw number t w scratch out ≡ accepted vs
     → Passes raw number t w × (file_answer (new_file raw number t w) out ≡ accepted vs)
-unfolding replacing replacing_text
+unfolding replacing replacing_text after_checks
 accepts raw number t w scratch out vs e = passes raw number t w _ vs (after-answer _ _ vs e)
 
 -- the first line stays where others are replaced

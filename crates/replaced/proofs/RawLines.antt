@@ -176,6 +176,7 @@ plain_lines (l ∷ ls) = repair (drop_bom l.bytes) ∷ map line_of ls
 
 split_plain : {ls : List RawLine} → Shaped ls → split (plain_text (raw_bytes ls)) ≡ plain_lines ls
 unfolding plain_lines
+split_plain {ls = []} h = elim h [ ]
 split_plain {ls = l ∷ ls} h =
     split-plain_text (raw_bytes (l ∷ ls))
     ∙ ap (λ s. map repair (split (newlines s))) (drop_bom-first h)

@@ -1,8 +1,10 @@
 // A request line read: `mend`, the cue's number, its start, end, identifier, settings and text, parted by tabs. Any line is taken. What is
 // answered is what the definition of a request says of the line, and the room holds the new cue's parts, or is as it was where the line is no
 // request.
+#![tactic(auto)]
+
 ghost use Rattle.std.specs.Prelude.{◌+◌, ◌<◌, ◌^◌, ◌≡◌, [], ◌++◌, length};
-ghost use Rattle.std.proofs.Math.Option.{Option·elim};
+ghost use Rattle.std.proofs.Math.Option.{Option-elim};
 ghost use Rattle.format.specs.Fields.{fields, field_number, unescaped};
 ghost use Rattle.format.specs.Requests.{settings_field, request, request_of, lent_text};
 ghost use Rattle.format.specs.Rows.{new_cue_words};
@@ -18,27 +20,27 @@ use format::settings::{Settings, Span};
 use values::bytes::{part, same_bytes};
 
 // What is asked for: the cue's number, the new cue, whose parts stand in a lent room, and the part there that is its region's name.
-#[derive(Drop)]
+#[derive(Clone, Copy)]
 pub struct Asking {
     pub number: usize,
     pub cue: CueEntry,
     pub region: Span,
 }
 
-#[derive(Drop)]
+#[derive(Clone, Copy)]
 pub enum Asked {
     Bad,
     Cue(Asking),
 }
 
-#[derive(Drop)]
+#[derive(Clone, Copy)]
 struct Numbers {
     number: u64,
     start: u64,
     end: u64,
 }
 
-#[derive(Drop)]
+#[derive(Clone, Copy)]
 enum NumbersRead {
     Bad,
     Good(Numbers),
@@ -66,13 +68,13 @@ fn numbers_of(line: &[u8]) -> NumbersRead
 }
 
 // How long the identifier and the text are that the fields stand for.
-#[derive(Drop)]
+#[derive(Clone, Copy)]
 struct Lengths {
     id: usize,
     text: usize,
 }
 
-#[derive(Drop)]
+#[derive(Clone, Copy)]
 enum LengthsRead {
     Bad,
     Good(Lengths),
@@ -158,7 +160,7 @@ fn asking_of(numbers: Numbers, settings: Settings, lengths: Lengths, name: usize
 // What the fields after the numbers ask for.
 fn read_rest(line: &[u8], numbers: Numbers, room: &mut [u8]) -> Asked
     ensures answer { result ≡ asked_is (rest_of numbers (fields line.now)) }
-    ensures room { room.new ≡ room_with 0 (Option·elim (rest_of numbers (fields line.now)) [] lent_text) room.old }
+    ensures room { room.new ≡ room_with 0 (Option-elim (rest_of numbers (fields line.now)) [] lent_text) room.old }
 {
     let LengthsRead::Good(lengths) = lengths_of(line) else {
         return Asked::Bad;
@@ -175,7 +177,7 @@ fn read_rest(line: &[u8], numbers: Numbers, room: &mut [u8]) -> Asked
 
 fn read_fields(line: &[u8], room: &mut [u8]) -> Asked
     ensures answer { result ≡ asked_is (request_of (fields line.now)) }
-    ensures room { room.new ≡ room_with 0 (Option·elim (request_of (fields line.now)) [] lent_text) room.old }
+    ensures room { room.new ≡ room_with 0 (Option-elim (request_of (fields line.now)) [] lent_text) room.old }
 {
     match numbers_of(line) {
         NumbersRead::Bad => Asked::Bad,
@@ -186,7 +188,7 @@ fn read_fields(line: &[u8], room: &mut [u8]) -> Asked
 // What a line asks for. The new cue's parts are put into the room.
 pub fn read(line: &[u8], room: &mut [u8]) -> Asked
     ensures answer { result ≡ asked_is (request line.now) }
-    ensures room { room.new ≡ room_with 0 (Option·elim (request line.now) [] lent_text) room.old }
+    ensures room { room.new ≡ room_with 0 (Option-elim (request line.now) [] lent_text) room.old }
 {
     if fields::count(line) != 7 {
         return Asked::Bad;

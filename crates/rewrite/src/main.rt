@@ -1,4 +1,6 @@
 // Prints the written form of what a player would read of the standard input, or the refusal.
+#![tactic(auto)]
+
 use format::rows::*;
 use libc::STDIN_FILENO;
 

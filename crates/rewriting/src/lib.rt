@@ -1,4 +1,6 @@
 // Rewriting a raw file in the one written form: it is converted, read and written again, or refused by the first of these that refuses.
+#![tactic(auto)]
+
 ghost use Rattle.std.specs.Prelude.{◌≡◌, length, take};
 ghost use Rattle.format.specs.Plain.{plain_text};
 ghost use Rattle.format.specs.Lists.{lists};

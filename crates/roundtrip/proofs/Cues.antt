@@ -256,6 +256,7 @@ line_number_lem x old true negative m a (counted h z) b e =
     let r = line_read negative m h z in
     rw (b, e, line_ends_lem true negative m, r.read, r.within, r.sign, r.value)
 line_number_lem x old false false m a (parted h) b e = rw (b, e, line_ends_lem false false m, percentage_read m h)
+line_number_lem x old false true m a parts b e = elim parts [ ]
 
 line_setting_read :
     (p : ℕ) (s : Settings) (snap negative : Bool) (m : ℕ) (a : LineAlign)

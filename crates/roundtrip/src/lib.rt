@@ -1,1 +1,2 @@
 // Writing and then reading gives the same lists. Theorems only.
+#![tactic(auto)]

@@ -1,5 +1,7 @@
 // Rows of the lent tables, coded here and decoded in `cues`, `regions` and `styles`: all other code knows them by these functions alone. Any row is
 // taken.
+#![tactic(auto)]
+
 mod choices;
 pub mod cues;
 pub mod inner;

@@ -1,4 +1,6 @@
 // Prints, for each file that an argument names with its folder, its name and what the program that the folder stands for prints of it.
+#![tactic(auto)]
+
 mod jobs;
 
 ghost use Rattle.std.specs.Prelude.{◌≤◌, length};

@@ -1,4 +1,6 @@
 // A cue's settings as they are written: each after a space, those at their opening value left out. Any row is taken.
+#![tactic(auto)]
+
 ghost use Rattle.std.specs.Prelude.{cond, [], ◌∷◌};
 ghost use Rattle.format.specs.Bytes.{hyphen};
 ghost use Rattle.format.specs.Rows.{cue_entry};

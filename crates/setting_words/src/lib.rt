@@ -1,4 +1,6 @@
 // The words of a cue's settings: which setting a name means, and which choice a value. Any bytes are taken.
+#![tactic(auto)]
+
 ghost use Rattle.std.specs.Prelude.{◌≡◌};
 ghost use Rattle.format.specs.CueSettings.{direction, alignment, line_align, position_align};
 ghost use Rattle.setting_words.specs.Words.{cue_name_is, align_word_is, align_name_is, line_aligned_is, position_aligned_is};
@@ -8,7 +10,7 @@ use values::bytes::{ByteKind, same_bytes};
 use values::names::index_of;
 
 // A setting by its name.
-#[derive(Drop)]
+#[derive(Clone, Copy)]
 pub enum CueName {
     Region,
     Vertical,
@@ -69,7 +71,7 @@ pub fn align_of(value: &[u8], current: Align) -> Align
 }
 
 // The alignment after a value's comma, by its name.
-#[derive(Drop)]
+#[derive(Clone, Copy)]
 pub enum AlignName {
     // There is no comma.
     Absent,
@@ -104,7 +106,7 @@ fn align_name(value: &[u8]) -> AlignName
     align_word(&value[comma + 1..])
 }
 
-#[derive(Drop)]
+#[derive(Clone, Copy)]
 pub enum LineAligned {
     Bad,
     Good(LineAlign),
@@ -124,7 +126,7 @@ pub fn line_align(value: &[u8], current: LineAlign) -> LineAligned
     }
 }
 
-#[derive(Drop)]
+#[derive(Clone, Copy)]
 pub enum PositionAligned {
     Bad,
     Good(PositionAlign),

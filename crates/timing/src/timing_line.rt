@@ -11,7 +11,7 @@ use crate::usual::{Usual, usual_times};
 use format::times::{Stamp, TimeFault, Timing, TimingLine};
 use values::bytes::{ByteKind, is_at};
 
-#[derive(Drop)]
+#[derive(Clone, Copy)]
 pub enum ArrowEnd {
     Bad { fault: TimeFault, at: usize },
     At(usize),
@@ -59,7 +59,7 @@ fn read_end(s: &[u8], at: usize) -> Stamp
 }
 
 // The two times of a timing line.
-#[derive(Drop)]
+#[derive(Clone, Copy)]
 pub enum Times {
     // It is no timing line: the step that failed, and where.
     Bad { fault: TimeFault, at: usize },
@@ -152,7 +152,7 @@ pub(crate) fn read_timing_line(s: &[u8], from: usize) -> TimingLine
 }
 
 // What a line is, without what it says.
-#[derive(Drop)]
+#[derive(Clone, Copy)]
 pub enum LineKind {
     Bad,
     Over,

@@ -88,7 +88,7 @@ fn no_digit(t: &[u8]) -> bool
     true
 }
 
-#[derive(Drop)]
+#[derive(Clone, Copy)]
 pub enum Usual {
     // Not of this form; the times are to be read in the general way.
     Other,

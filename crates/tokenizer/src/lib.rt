@@ -1,4 +1,6 @@
 // The tokens of a cue text, each as parts of the text. Any text and any place in it are taken.
+#![tactic(auto)]
+
 pub mod reader;
 
 ghost use Rattle.std.specs.Prelude.{◌≡◌, ◌+◌, ◌≤◌, length, drop};
@@ -11,7 +13,7 @@ use format::settings::Span;
 pub use reader::{Tokenizer, token_at};
 use values::bytes::{ByteKind, is_digit, past};
 
-#[derive(Drop)]
+#[derive(Clone, Copy)]
 pub enum Token {
     // Text with its escapes.
     String(Span),
@@ -25,7 +27,7 @@ pub enum Token {
     Timestamp(Span),
 }
 
-#[derive(Drop)]
+#[derive(Clone, Copy)]
 pub enum Stepped {
     // The text's end is reached.
     None,

@@ -41,7 +41,7 @@ pub fn is_at(s: &[u8], at: usize, b: u8) -> bool
 }
 
 // What a run is made of.
-#[derive(Drop)]
+#[derive(Clone, Copy)]
 pub enum ByteKind {
     White,
     // All but whitespace.

@@ -1,4 +1,6 @@
 // Runs of bytes, names, tokens, numbers and timestamps, read from a text or a part of one. Any bytes are taken; each function ends in linear time.
+#![tactic(auto)]
+
 pub mod bytes;
 pub mod inner;
 pub mod names;

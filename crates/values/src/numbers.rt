@@ -48,7 +48,7 @@ fn six_digits(ds: &[u8]) -> u32
     (a + b + digit_at(ds, 4) * 10 + digit_at(ds, 5)) as u32
 }
 
-#[derive(Drop)]
+#[derive(Clone, Copy)]
 pub enum Decimal {
     Bad,
     // The digits before the full stop, held at CAP; the millionths after it; is any digit after it not 0.
@@ -92,7 +92,7 @@ fn read_decimal(s: &[u8]) -> Decimal
     }
 }
 
-#[derive(Drop)]
+#[derive(Clone, Copy)]
 pub enum Percentage {
     Bad,
     // In millionths.
@@ -141,7 +141,7 @@ fn exceeds(whole: u64, more: bool, limit: u64) -> bool
     whole == limit && more
 }
 
-#[derive(Drop)]
+#[derive(Clone, Copy)]
 pub enum LineNumber {
     Bad,
     // Beyond 999,999 either way.
@@ -185,7 +185,7 @@ pub fn read_line_number(s: &[u8]) -> LineNumber
     line_of(false, read_decimal(s))
 }
 
-#[derive(Drop)]
+#[derive(Clone, Copy)]
 pub enum LineCount {
     Bad,
     // Above 999,999.

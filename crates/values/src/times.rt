@@ -9,7 +9,7 @@ ghost use Rattle.values.specs.Times.{field_is, stamp_is};
 use super::bytes::ByteKind;
 use format::times::{Stamp, TimeFault};
 
-#[derive(Drop)]
+#[derive(Clone, Copy)]
 pub enum Field {
     Bad { fault: TimeFault, at: usize },
     Good { value: u64, next: usize },

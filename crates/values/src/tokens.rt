@@ -4,14 +4,14 @@ ghost use Rattle.values.specs.Tokens.{span_to};
 
 use format::settings::Span;
 
-#[derive(Drop)]
+#[derive(Clone, Copy)]
 pub enum Token {
     End,
     At { from: usize, to: usize },
 }
 
 // A token's name and value.
-#[derive(Drop)]
+#[derive(Clone, Copy)]
 pub enum NameEnd {
     // The first colon is missing, first or last.
     None,

@@ -1,4 +1,6 @@
 // Runs the test vectors in the files that the arguments name, line by line: `plain` has bytes to be converted, `timing` texts to be read.
+#![tactic(auto)]
+
 mod plain_lines;
 mod timing_lines;
 

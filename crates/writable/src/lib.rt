@@ -1,5 +1,7 @@
 // Document 01's "writable": the first test that a style, a region or a cue fails, and the first row of a list that fails one. Any rows are
 // taken, over any text.
+#![tactic(auto)]
+
 mod texts;
 
 ghost use Rattle.std.specs.Prelude.{◌*◌, ◌≡◌, cond, not, ◌&&◌, [], ◌∷◌, leb, length};
@@ -20,7 +22,7 @@ use parts::part_plain;
 use values::bytes::part;
 
 // The first row of a list that is not writable, and the first test that it fails.
-#[derive(Drop)]
+#[derive(Clone, Copy)]
 pub enum Fault {
     None,
     At { index: usize, test: usize },

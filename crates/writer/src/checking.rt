@@ -8,7 +8,7 @@ ghost use Rattle.writer.specs.Blocks.{unless};
 use format::rows::{CueRow, RegionRow, StyleRow};
 use writable::Fault;
 
-#[derive(Drop)]
+#[derive(Clone, Copy)]
 pub enum Checked {
     Writable,
     NotWritable {

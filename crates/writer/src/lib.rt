@@ -1,5 +1,7 @@
 // Writing lists to a file: what is writable is tested, the file is measured, and then it is written. Any rows are taken, over any text, and
 // nothing is asked of the caller.
+#![tactic(auto)]
+
 mod checking;
 
 ghost use Rattle.std.specs.Prelude.{◌≡◌, map, ℕ, length, take};

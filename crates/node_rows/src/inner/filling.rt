@@ -16,7 +16,7 @@ use nodes::kinds::{MaybeKind, is_kind, kind_numbered, kind_word, same_kind};
 use tokenizer::{Stepped, Token};
 
 // How far the table and the room are filled, and the current node: 0 for the root, else its index and one.
-#[derive(Drop)]
+#[derive(Clone, Copy)]
 pub struct Filled {
     pub count: usize,
     pub used: usize,

@@ -15,7 +15,7 @@ use nodes::kinds::{MaybeKind, is_kind, kind_numbered, kind_word, same_kind};
 use stack::inner::kinds::Stack;
 use tokenizer::{Stepped, Token};
 
-#[derive(Drop)]
+#[derive(Clone, Copy)]
 pub enum Need {
     // The hours of a timestamp are above their limit.
     Over,
@@ -23,14 +23,14 @@ pub enum Need {
 }
 
 // What the tokens passed so far come to: the open nodes, and how many nodes and bytes of strings there are.
-#[derive(Drop)]
+#[derive(Clone, Copy)]
 struct Measured {
     stack: Stack,
     count: usize,
     used: usize,
 }
 
-#[derive(Drop)]
+#[derive(Clone, Copy)]
 enum Turned {
     // The token's time is above its limit.
     Over,

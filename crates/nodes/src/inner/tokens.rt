@@ -19,7 +19,7 @@ use strings::inner::puts::{put_collapsed, put_decoded};
 use tokenizer::Token;
 use values::names::index_of;
 
-#[derive(Drop)]
+#[derive(Clone, Copy)]
 pub enum Made {
     None,
     // A timestamp whose hours are above their limit.

@@ -9,7 +9,7 @@ use blocks::items::{Item, ItemKind};
 use format::settings::Span;
 
 // What the blocks have that were passed over.
-#[derive(Drop)]
+#[derive(Clone, Copy)]
 pub struct Found {
     // How many cues.
     pub cues: usize,
@@ -19,7 +19,7 @@ pub struct Found {
     pub named: bool,
 }
 
-#[derive(Drop)]
+#[derive(Clone, Copy)]
 pub enum Surveyed {
     NoSignature,
     // A number is above its limit.
