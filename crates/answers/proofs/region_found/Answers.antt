@@ -7,7 +7,7 @@ pub returns-in-None : goal.returns-in-None
 unfolding refusal_number returned with_values found_is
 returns-in-None c =
     record {
-      number = rw c.in-None.is (refl);
+      number = refl;
       values = rw c.in-None.is (c.put_3.ensures);
     }
 
@@ -15,6 +15,6 @@ pub returns-in-At : goal.returns-in-At
 unfolding refusal_number returned with_values found_is
 returns-in-At c =
     record {
-      number = rw c.in-At.is (refl);
+      number = refl;
       values = rw c.in-At.is (c.put_3-in-At.ensures);
     }

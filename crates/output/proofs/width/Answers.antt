@@ -7,7 +7,7 @@ use borrow.Author.Count.{below_more}
 use Rattle.format.specs.Written.{last_digits, at_least}
 use Rattle.output.proofs.DigitLaws.{over_ten, zeros_dropped, all-kept}
 use Rattle.output.proofs.width.Goals as goal
-use Rattle.output.proofs.width.Goals.{else-least-w, then-least-w}
+use Rattle.output.proofs.width.Goals.{else-least-w, then-least-w+else-rest-eq0}
 
 pub loop-w-init : goal.loop-w-init
 loop-w-init c = (omega arith, sym (div-one c.args.n), λ k h l z. omega arith)
@@ -27,7 +27,7 @@ loop-w-preserved c =
     let e = c.loop-w.invariant.1 in (
       omega arith,
       rw (add-one w, e) (over_ten args.n w),
-      below_more _ w c.loop-w.invariant.2 (λ l z. elim c.if-least-w.branch [ then-least-w came ↦ came.1.left (e ∙ z) | else-least-w came ↦ omega arith ]),
+      below_more _ w c.loop-w.invariant.2 (λ l z. elim c.if-least-w.branch [ then-least-w+else-rest-eq0 came ↦ came.if-rest-eq0.false (e ∙ z) | else-least-w came ↦ omega arith ]),
     )
 
 pub returns : goal.returns

@@ -10,7 +10,7 @@ use Rattle.format.specs.Answers.{accepted, refused, if_accepted, placed}
 use Rattle.format.specs.Converting.{converted_is, converting, converted_room}
 use Rattle.laws.proofs.PlainText.{plain_text-length}
 use Rattle.plain.proofs.convert.Goals as goal
-use Rattle.plain.proofs.convert.Goals.{After-mark_len-from, After-measure-need, Joined-room-raw, else-room-raw, then-room-raw}
+use Rattle.plain.proofs.convert.Goals.{After-mark_len-from, After-measure-need, Joined-room-raw, else-room-raw, then-room-raw+else-room-need}
 
 -- `plain::convert` meets its contract: each way out is one case of the chain of tests.
 too_long_lem : (raw : List ℕ) (n : ℕ) → max_file < length raw → converting raw n ≡ refused 1 []
@@ -71,7 +71,7 @@ enough : (c : Joined-room-raw) → (from_whole : let raw = c.args.raw.now in len
     → let args = c.args in length (plain_text args.raw.now) ≤ length args.room.now
 enough c from_whole =
     let raw = c.args.raw.now in
-    elim c.if-room-raw.branch [ then-room-raw w ↦ omega (arith, w.1.ensures, from_whole, w.2.left) | else-room-raw w ↦ omega (arith, plain_text-length raw, w.left) ]
+    elim c.if-room-raw.branch [ then-room-raw+else-room-need w ↦ omega (arith, w.measure-need.ensures, from_whole, w.if-room-need.false) | else-room-raw w ↦ omega (arith, plain_text-length raw, w.if-room-raw.false) ]
 
 pub write-requires : goal.write-requires
 write-requires c =

@@ -72,7 +72,10 @@ returns-then-first-eq3 c =
 
 -- both ways out after the last test
 ending :
-    (c : After-holds-3) (t : Bool)
+    (c : After-holds-3)
+    (from_second : starts_in (c.lead_of-first.result.low to c.lead_of-first.result.high) (drop (c.args.at + 1) c.args.s.now) ≡ true)
+    (from_third : starts_in (0x80 to 0xBF) (drop (c.args.at + 2) c.args.s.now) ≡ true)
+    (t : Bool)
     → c.holds-3.result ≡ t
     → let args = c.args in
     cond t (Keep 4) (Replace 3) ≡ run_of (drop args.at args.s.now)

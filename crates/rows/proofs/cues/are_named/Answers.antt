@@ -22,7 +22,7 @@ returns-then-row-ge4 c = unnamed_13 _ c.if-row-ge4.true
 pub returns : goal.returns
 returns c =
     last_code
-    c.args.t1
+    c.args.row
     c.if-row-ge3.false
     c.if-row-ge3-2.false
     c.if-row-ge2.false
