@@ -45,7 +45,7 @@ returns-in_default c =
             omega (
       arith,
       plain_at_other c.args.s.now c.loop-i.i (omega arith)
-          (λ n e. ⊎_elim (λ k. omega arith) (⊎_elim (λ k. omega arith) (λ k. omega arith)) ?),
+          (λ n e. c.in_default.not-Keep n (c.run_at.ensures ∙ e)),
     )
 
 pub returns : goal.returns
