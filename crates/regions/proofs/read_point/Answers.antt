@@ -17,8 +17,7 @@ use Rattle.regions.proofs.read_point.Goals.{After-past-comma, Else-comma-value}
 comma-at : (c : After-past-comma) → let x = c.args.value.now in c.past-comma.result ≡ length (before_first comma x)
 comma-at c = first-is comma c.args.value.now c.past-comma.result c.past-comma.ensures
 
-within : (c : Else-comma-value) → (from_comma_at : let x = c.args.value.now in c.past-comma.result ≡ length (before_first comma x))
-    → c.past-comma.result < length c.args.value.now
+within : (c : Else-comma-value) (from_comma_at : let x = c.args.value.now in c.past-comma.result ≡ length (before_first comma x)) → c.past-comma.result < length c.args.value.now
 within c from_comma_at = omega (arith, from_comma_at, before-length comma c.args.value.now)
 
 pub returns-then-comma-value : goal.returns-then-comma-value
@@ -32,9 +31,8 @@ slice_bounds-read_percentage-end c =
 
 -- the value as two percentages
 point-here :
-    (c : Else-comma-value)
-    →     (from_comma_at : let x = c.args.value.now in c.past-comma.result ≡ length (before_first comma x))
-    → let x = c.args.value.now in
+    (c : Else-comma-value) (from_comma_at : let x = c.args.value.now in c.past-comma.result ≡ length (before_first comma x))
+    →     let x = c.args.value.now in
     let k = c.past-comma.result in
     point_is (point x) ≡ point_from (percentage_is (percentage (take k x))) (percentage_is (percentage (take (length x - (k + 1)) (drop (k + 1) x))))
 unfolding point

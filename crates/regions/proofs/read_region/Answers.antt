@@ -26,7 +26,7 @@ pub returns-in_default : goal.returns-in_default
 unfolding stepped
 returns-in_default c =
             let s = c.args.s.now in
-    let none : tokens c.loop-at.i (drop c.loop-at.i s) ≡ [] = rw c.in_default.is c c.next_token-found.ensures in
+    let none : tokens c.loop-at.i (drop c.loop-at.i s) ≡ [] = rw c.in_default.is at c.next_token-found.ensures in
     sym (ap (stepped step_is c.loop-at.taken) none) ∙ c.loop-at.invariant.1
 
 -- the token that was found

@@ -23,7 +23,7 @@ pub returns : goal.returns
 returns c =
                     let s = c.args.s.now in
     let over : c.if-taken.over ≡ c.args.taken.over || over_region c.named_change-change.result =
-    elim c.if-taken.branch [ then-taken w ↦ rw w.0.taken (w.1 ∙ w.0.taken) | else-taken w ↦ rw w.0.left (w.2 ∙ w.1.ensures) ] in
+    elim c.if-taken.branch [ then-taken w ↦ rw w.if-taken.true (w.over-is ∙ w.if-taken.true) | else-taken w ↦ rw w.if-taken.false (w.over-is ∙ w.is_over-over.ensures) ] in
     let value : c.span.result ≡ span_is (value_of (token_from s c.args.from)) =
     c.span.ensures ∙ span_is_lem s (c.args.colon + 1) (omega (arith, c.requires.inside)) ∙ sym (ap span_is c.requires.value) in
     rw (c.id_after-id.ensures, c.apply.ensures, over, value, change-is (goal.at.returns c).After-named_change-change)
