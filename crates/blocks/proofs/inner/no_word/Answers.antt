@@ -1,0 +1,17 @@
+use mathlib.Core.Bool.{true≢false}
+use mathlib.Core.Path.{sym}
+use native.Mathlib.Omega.{arith}
+use lib.Dec.{eqb}
+use lib.ListN.{get_or}
+use borrow.Author.Tests.{eqb-false, not-true}
+use Rattle.blocks.proofs.NothingLaws.{other_word}
+use Rattle.blocks.proofs.inner.no_word.Goals as goal
+
+pub returns-then-b-eq83 : goal.returns-then-b-eq83
+returns-then-b-eq83 c = λ e. absurd (true≢false (sym e))
+
+pub returns : goal.returns
+returns c =
+    let a = c.args in
+    let b = get_or a.s.now a.from 0 in
+    λ e. other_word a.s.now a.from a.first (omega arith) (omega arith) c.if-b-eq83.false (eqb-false b 0x52 (not-true (eqb b 0x52) e))
