@@ -53,11 +53,9 @@ pub record Refuses (s : List ℕ) (r : Reading) : Type 0 where
   pub answer : (cues regions styles : ℕ) → reading_is r ≡ reading s cues regions styles
   pub unchanged : (rows table : List (List ℕ)) → table ≡ after_reading (reading_is r) rows table
 
-pub refuses : (s : List ℕ) (r : Reading) → MeasuredIs s r → OneOf (1 ∷ 2 ∷ 3 ∷ 4 ∷ 5 ∷ []) (tag_of the_type r) → Refuses s r
+pub refuses : (s : List ℕ) (r : Reading) → MeasuredIs s r → ((x y z : ℕ) → r ≡ Reading.Lists x y z → ⊥) → Refuses s r
 unfolding reading_is after_reading if_accepted
-refuses s (Reading.Lists c r t) m k =
-    absurd
-    (⊎_elim (λ e. omega arith) (⊎_elim (λ e. omega arith) (⊎_elim (λ e. omega arith) (⊎_elim (λ e. omega arith) (λ e. omega arith)))) k)
+refuses s (Reading.Lists c r t) m k = absurd (k c r t refl)
 refuses s Reading.TextTooLong m k = record { answer = λ a b c. sym (m a b c); unchanged = λ rows table. refl }
 refuses s (Reading.TextNotPlainAt i) m k = record { answer = λ a b c. sym (m a b c); unchanged = λ rows table. refl }
 refuses s Reading.NoSignature m k = record { answer = λ a b c. sym (m a b c); unchanged = λ rows table. refl }
