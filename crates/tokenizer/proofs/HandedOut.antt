@@ -15,7 +15,6 @@ use Rattle.laws.proofs.Tests.{by-test}
 use Rattle.tokenizer.specs.Tags.{token_is, StartAt, TagAt, StepAt, start_told, tag_is, tag_to, after_tag, step_is}
 use Rattle.tokenizer.specs.Reader.{moved_to, handed, handed_out, stands_at}
 use Rattle.tokenizer.specs.declared.Stepped.{Stepped}
-use Rattle.tokenizer.specs.declared.Stepped.TheVariants as Stepped
 use Rattle.tokenizer.proofs.Spans.{start_at, end_at_lem, timestamp_at, other_at, nothing_at, string_at, tag_bounds, tag_at, tag_none, tag_end_lem, tag_time_lem, tag_start, step_none, step_string, step_tag}
 
 -- the start tag and the tag between two places: their parts stand where the definitions say, by the tests on the first byte

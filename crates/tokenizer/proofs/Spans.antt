@@ -15,7 +15,6 @@ use Rattle.laws.proofs.Tests.{by-test}
 use Rattle.laws.proofs.Runs.{RunAt, drop-first, run_at, run-first, run-after, run-moves, drop-take}
 use Rattle.tokenizer.specs.Tags.{in_name, token_is, start_of, tag_of, PartsIn, StartAt, TagAt, Marked, TokenAt, name_to, classes_to, start_told, tag_is, string_to, tag_to, after_tag, step_is}
 use Rattle.tokenizer.specs.declared.Token.{Token}
-use Rattle.tokenizer.specs.declared.Token.TheVariants as Token
 use Rattle.tokenizer.specs.declared.Stepped.TheVariants as Stepped
 use Rattle.tokenizer.proofs.Strings.{not_less, string_token_lem}
 use Rattle.tokenizer.proofs.Tags.{not_greater, name-blank, name_other, tag_token}

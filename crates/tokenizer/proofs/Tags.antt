@@ -104,7 +104,7 @@ tag_tokens {st} (c ∷ s) t =
     (λ y. let e = eqb-true c greater y in rw (e, tag_closes t) refl)
     (λ n.
     let g = tag_goes c t n in
-    rw (n, returned-none g) (tag_tokens s (still_tagged (after_visit (visit begun c) begun) g)))
+    rw (n, returned-none g) (tag_tokens {st = after_visit (visit st c) (after_visit (visit begun c) begun)} s (still_tagged (after_visit (visit begun c) begun) g)))
 
 -- bytes that a state only gathers
 gathers :

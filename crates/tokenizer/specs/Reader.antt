@@ -1,10 +1,9 @@
 -- Document 01, Cue text: "a reader that stands over one cue's text and a place in it". Where it stands after a token, and the tokens that it hands
--- out one after the other; that these are the text's tokens by document 000, section 6.4, is `Handed-out` of `proofs/HandedOut.antt`.
+-- out one after the other; that these are the text's tokens by document 000, section 6.4, is `handed_out_lem` of `proofs/HandedOut.antt`.
 use Rattle.std.specs.Prelude.{ℕ, zero, suc, List, [], ◌∷◌}
 use Rattle.format.specs.CueText as CueText
 use Rattle.tokenizer.specs.Tags.{token_is, step_is}
 use Rattle.tokenizer.specs.declared.Stepped.{Stepped}
-use Rattle.tokenizer.specs.declared.Stepped.TheVariants as Stepped
 
 -- the place after a token; where there is none, the same place
 abbrev pub moved_to : Stepped → ℕ → ℕ

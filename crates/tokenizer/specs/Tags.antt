@@ -8,9 +8,7 @@ use Rattle.format.specs.CueText as CueText
 use Rattle.format.specs.declared.settings.Span.{Span}
 use Rattle.tokenizer.specs.Decoding.{decoded}
 use Rattle.tokenizer.specs.declared.Token.{Token}
-use Rattle.tokenizer.specs.declared.Token.TheVariants as Token
 use Rattle.tokenizer.specs.declared.Stepped.{Stepped}
-use Rattle.tokenizer.specs.declared.Stepped.TheVariants as Stepped
 
 -- a byte of a tag's name, or where full stops are passed of its name and classes
 unfoldable pub in_name : Bool → ℕ → Bool

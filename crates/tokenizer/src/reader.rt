@@ -1,6 +1,6 @@
 // A reader that stands over one cue's text and a place in it, and hands out the tokens one after the other. It is thin: each method takes it
 // apart and leaves the work to a function on the text and the place. That the tokens so handed out from the text's start on are the text's
-// tokens is `Handed-out` of `proofs/HandedOut.antt`.
+// tokens is `handed_out_lem` of `proofs/HandedOut.antt`.
 ghost use Rattle.std.specs.Prelude.{◌≡◌, leb, length};
 ghost use Rattle.tokenizer.specs.Tags.{step_is, StepAt};
 ghost use Rattle.tokenizer.specs.Reader.{moved_to};

@@ -7,7 +7,7 @@ use Rattle.stack.specs.Kinds.{digits, unload, kinds, Holds, Popped}
 use Rattle.stack.specs.declared.inner.kinds.Stack.{Stack}
 use Rattle.stack.proofs.KindLaws.{kinds-none, kinds-some, pop_small}
 use Rattle.stack.proofs.inner.kinds.pop.Goals as goal
-use Rattle.stack.proofs.inner.kinds.pop.Goals.{else-held-eq1, then-held-eq1}
+use Rattle.stack.proofs.inner.kinds.pop.Goals.{then-held-eq1+else-full-gt0, else-held-eq1}
 
 -- `stack::inner::kinds::pop` meets its contract.
 module _ (s : Stack) (words : List ℕ) (h : Holds s words) where
@@ -50,13 +50,13 @@ module _ (s : Stack) (words : List ℕ) (h : Holds s words) where
 
 pub returns-then-held-eq0 : goal.returns-then-held-eq0
 returns-then-held-eq0 c =
-        nothing c.args.s c.args.words.now c.requires (omega arith)
+    nothing c.args.s c.args.words.now c.requires (omega arith)
 
 pub returns-then-full-gt0 : goal.returns-then-full-gt0
 returns-then-full-gt0 c =
-        again c.args.s c.args.words.now c.requires (omega arith) (omega arith)
+    again c.args.s c.args.words.now c.requires (omega arith) (omega arith)
 
 pub returns : goal.returns
 returns c =
-        within c.args.s c.args.words.now c.requires (omega arith)
-    (λ e. elim c.if-held-eq1.branch [ then-held-eq1 w ↦ omega arith | else-held-eq1 w ↦ omega arith ])
+    within c.args.s c.args.words.now c.requires (omega arith)
+    (λ e. elim c.if-held-eq1.branch [ then-held-eq1+else-full-gt0 w ↦ omega arith | else-held-eq1 w ↦ omega arith ])

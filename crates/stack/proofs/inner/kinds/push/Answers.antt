@@ -73,23 +73,23 @@ module _ (s : Stack) (words : List ℕ) (kind : ℕ) (h : Holds s words) (k : ki
 
 pub overflow_mul-result : goal.overflow_mul-result
 overflow_mul-result c =
-        let l : c.args.s.held < 21 = omega arith in
+    let l : c.args.s.held < 21 = omega arith in
     omega (arith, room c.args.s c.args.words.now c.args.kind c.requires.0 c.requires.1 l)
 
 pub overflow_add-result-then-held-lt21 : goal.overflow_add-result-then-held-lt21
 overflow_add-result-then-held-lt21 c =
-        let l : c.args.s.held < 21 = omega arith in
+    let l : c.args.s.held < 21 = omega arith in
     omega (arith, room c.args.s c.args.words.now c.args.kind c.requires.0 c.requires.1 l)
 
 pub returns-then-held-lt21 : goal.returns-then-held-lt21
 returns-then-held-lt21 c =
-        within c.args.s c.args.words.now c.args.kind c.requires.0 c.requires.1 (omega arith)
+    within c.args.s c.args.words.now c.args.kind c.requires.0 c.requires.1 (omega arith)
 
 pub bounds-words-full : goal.bounds-words-full
 bounds-words-full c =
-        omega (arith, length-kinds c.args.s c.args.words.now)
+    omega (arith, length-kinds c.args.s c.args.words.now)
 
 pub returns : goal.returns
 returns c =
-        over c.args.s c.args.words.now c.args.kind c.requires.0 c.requires.1
-    (omega arith) (slice-write-words c)
+    over c.args.s c.args.words.now c.args.kind c.requires.0 c.requires.1
+    (omega arith) (omega (arith, length-kinds c.args.s c.args.words.now))

@@ -8,9 +8,9 @@ use Rattle.stack.proofs.inner.kinds.top.Goals as goal
 pub returns-then-held-eq0 : goal.returns-then-held-eq0
 unfolding top_of
 returns-then-held-eq0 c =
-        sym (ap top_of (kinds-none c.args.s c.args.words.now c.requires (omega arith)))
+    sym (ap top_of (kinds-none c.args.s c.args.words.now c.requires (omega arith)))
 
 pub returns : goal.returns
 unfolding top_of
 returns c =
-        sym (ap top_of (kinds-some c.args.s c.args.words.now (omega arith)))
+    sym (ap top_of (kinds-some c.args.s c.args.words.now (omega arith)))
