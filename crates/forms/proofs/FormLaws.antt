@@ -14,7 +14,6 @@ use Rattle.format.specs.Written.{setting, written_region_name, written_settings,
 use Rattle.format.specs.declared.regions.Region.{Region}
 use Rattle.format.specs.declared.rows.CueEntry.{CueEntry}
 use Rattle.format.specs.declared.rows.RegionIndex.{RegionIndex}
-use Rattle.format.specs.declared.rows.RegionIndex.TheVariants as RegionIndex
 use Rattle.laws.proofs.Lines.{splits}
 use Rattle.laws.proofs.Standing.{ended_append}
 use Rattle.roundtrip.proofs.Cues.{names_of_lem}

@@ -2,7 +2,6 @@
 use Rattle.std.specs.Prelude.{ℕ, List, [], ◌∷◌}
 use Rattle.std.proofs.Math.Option.{Option, none, some}
 use Rattle.writable.specs.declared.Fault.{Fault}
-use Rattle.writable.specs.declared.Fault.TheVariants as Fault
 
 -- the first failing test, counted from 1; 0 for none
 abbrev pub test_number : Option ℕ → ℕ

@@ -1,0 +1,13 @@
+use mathlib.Core.Path.{ap}
+use Rattle.format.specs.Written.{written_time}
+use Rattle.output.proofs.PutLaws.{◌then◌, puts_as}
+use Rattle.forms.specs.Forms.{timing_form}
+use Rattle.forms.proofs.timing_line.Goals as goal
+
+pub returns : goal.returns
+unfolding timing_form
+returns c =
+    puts_as (ap written_time c.start.ensures) c.time-arrow.ensures
+    then c.bytes-end.ensures
+    then puts_as (ap written_time c.end.ensures) c.time-after.ensures
+    then c.settings.ensures
