@@ -7,7 +7,6 @@ use Rattle.format.specs.Answers.{Answer, refused}
 use Rattle.format.specs.Writing.{unless_failing}
 use Rattle.writable.specs.Faults.{fault_is}
 use Rattle.writable.specs.declared.Fault.{Fault}
-use Rattle.writable.specs.declared.Fault.TheVariants as Fault
 
 module _ (list : ℕ) {found : Fault} {o : Option (List ℕ)} (e : fault_is list found ≡ o) (answer : Answer) where
   pub refuses : {index test : ℕ} → found ≡ Fault.At index test → refused 8 (list ∷ index ∷ test ∷ []) ≡ unless_failing o answer

@@ -9,13 +9,11 @@ use Rattle.format.specs.Writable.{style_fails, region_fails, cue_fails}
 use Rattle.format.specs.Writing.{writing_is, first_in, unless_failing, file_of, writing, written_room, ReadBack}
 use Rattle.format.specs.Contents.{contents_of_rows}
 use Rattle.format.specs.declared.Writing.{Writing}
-use Rattle.format.specs.declared.Writing.TheVariants as Writing
 use Rattle.roundtrip.proofs.Back.{room_back}
 use Rattle.output.specs.Puts.{Puts}
 use Rattle.output.proofs.FileLaws as File
 use Rattle.writer.specs.Blocks.{unless}
 use Rattle.writer.specs.declared.checking.Checked.{Checked}
-use Rattle.writer.specs.declared.checking.Checked.TheVariants as Checked
 
 module _ (s : List ℕ) (styles regions cues : List (List ℕ)) (out : List ℕ) where
   abbrev file : List ℕ

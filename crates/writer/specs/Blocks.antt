@@ -4,7 +4,6 @@ use Rattle.format.specs.Bytes.{lf}
 use Rattle.format.specs.Lines.{join}
 use Rattle.format.specs.Answers.{Answer, refused}
 use Rattle.writer.specs.declared.checking.Checked.{Checked}
-use Rattle.writer.specs.declared.checking.Checked.TheVariants as Checked
 
 -- a block after an empty line, its last line ended
 unfoldable pub block_form : List (List ℕ) → List ℕ
