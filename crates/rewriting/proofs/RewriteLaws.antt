@@ -1,21 +1,18 @@
 -- Laws of one answer after another: a refusal to read is the answer, and where lists were read, their rows stand at the tables' starts.
-use Prim.Native.Nat.{ℕ, ◌≤◌, min}
+use Prim.Native.Nat.{ℕ, min}
 use mathlib.Core.Path.{◌≡◌, refl, sym, ap, ◌∙◌}
-use mathlib.Core.Bool.{Bool, true, false, cond, not, ◌||◌}
-use mathlib.Core.Logic.{⊎_elim}
 use mathlib.Core.List.{List, [], ◌∷◌, ◌++◌}
 use native.Mathlib.Omega.{arith}
 use lib.Dec.{ltb}
 use lib.ListN.{length, take, length-map}
 use lib.Seq.{length-take-le}
-use borrow.Author.Tests.{ltb-false, le-ltb}
+use borrow.Author.Tests.{ltb-false}
 use Rattle.laws.proofs.Answers.{after_test, front}
 use Rattle.laws.proofs.Rows.{rows_say, stored-length}
-use Rattle.format.specs.Answers.{Answer, accepted, refused, if_accepted, and_then, placed}
+use Rattle.format.specs.Answers.{Answer, accepted, refused, if_accepted, and_then}
 use Rattle.format.specs.Limits.{max_file, max_text}
 use Rattle.format.specs.Plain.{plain_text}
-use Rattle.format.specs.Blocks.{has_signature}
-use Rattle.format.specs.Lists.{items, lists, any_over}
+use Rattle.format.specs.Lists.{lists}
 use Rattle.format.specs.Rows.{region_rows, style_rows, stored_cues}
 use Rattle.format.specs.Converting.{converting}
 use Rattle.format.specs.Reading.{counts, reading, reading_raw, file_reading, after_reading}
