@@ -3,23 +3,19 @@
 use Prim.Native.Nat.{ℕ, ◌+◌, ◌≤◌, ◌<◌}
 use mathlib.Core.Path.{◌≡◌, refl, sym, ap, ◌∙◌}
 use mathlib.Core.Logic.{◌≢◌}
-use mathlib.Core.Bool.{true, false, not, ◌&&◌}
-use mathlib.Core.List.{List, [], ◌∷◌, map}
-use mathlib.Core.Option.{none}
+use mathlib.Core.List.{List, map}
 use native.Mathlib.Omega.{arith}
 use lib.Dec.{ltb}
-use lib.ListN.{length, get_or, length-map, length-set}
+use lib.ListN.{length, length-map, length-set}
 use borrow.Author.Tests.{ltb-true, ltb-false}
 use Rattle.format.specs.Plain.{plain_text}
 use Rattle.format.specs.Lines.{split}
 use Rattle.format.specs.Lists.{lists}
 use Rattle.format.specs.LineNumbers.{line_spans, LinesMoved}
-use Rattle.format.specs.Contents.{CueContents, RegionContents, contents}
-use Rattle.format.specs.Writable.{none_empty}
+use Rattle.format.specs.Contents.{contents}
 use Rattle.format.specs.Written.{cue_lines}
-use Rattle.format.specs.Rows.{ids}
 use Rattle.format.specs.Answers.{Answer}
-use Rattle.format.specs.Replacing.{raw_lines, raw_bytes, first_line, cue_asked, region_names, new_form, new_file, with_cue, line_up_to, no_gap}
+use Rattle.format.specs.Replacing.{raw_lines, raw_bytes, first_line, cue_asked, region_names, new_form, new_file, with_cue, no_gap}
 use Rattle.format.specs.Edits.{after_checks}
 use Rattle.laws.proofs.Tests.{by-test}
 use Rattle.roundtrip.proofs.Files.{ids-contents, cue_blocks_lem}

@@ -2,11 +2,11 @@
 -- later or earlier; and the line before each is empty where it was.
 use Prim.Native.Nat.{ℕ, zero, suc, ◌+◌, ◌-◌, ◌≤◌, ◌<◌}
 use mathlib.Core.Path.{◌≡◌, refl, sym, ap, ◌∙◌}
-use mathlib.Core.Bool.{true, false, not, ◌&&◌}
+use mathlib.Core.Bool.{true, false, not}
 use mathlib.Core.List.{List, [], ◌∷◌, ◌++◌, map, append_assoc}
 use native.Mathlib.Omega.{arith}
 use lib.Dec.{ltb}
-use lib.ListN.{length, get_or, take, drop, length-append, length-drop, length-map, get_or-map}
+use lib.ListN.{length, get_or, take, drop, length-drop, length-map, get_or-map}
 use lib.Seq.{length-take-le, get_or-append-add, get_or-take, get_or-drop}
 use borrow.Author.Tests.{ltb-true, ltb-false, not-true}
 use Rattle.format.specs.Texts.{is_empty}
@@ -14,13 +14,13 @@ use Rattle.format.specs.Blocks.{Line, between, header, blocks_from, bytes_of}
 use Rattle.format.specs.Writable.{none_empty}
 use Rattle.format.specs.Lines.{split}
 use Rattle.format.specs.Lists.{lists}
-use Rattle.format.specs.LineNumbers.{cue_blocks, first_number, line_span, line_spans, span_at, later, LinesMoved}
+use Rattle.format.specs.LineNumbers.{cue_blocks, line_span, line_spans, span_at, later, LinesMoved}
 use Rattle.format.specs.Replacing.{first_line, line_up_to}
 use Rattle.format.specs.declared.rows.LineSpan.{LineSpan}
-use Rattle.laws.proofs.Tests.{and_left, and_right, and_both, by-test}
+use Rattle.laws.proofs.Tests.{and_left, and_right, by-test}
 use Rattle.laws.proofs.Standing.{All, length-bytes}
 use Rattle.laws.proofs.LineNumbers.{FollowFrom, Sound, spans_length, spans_follow, blocks_sound}
-use Rattle.replaced.proofs.CueBlocks.{Around, around, CueBlock, cue-block_at, first_line_lem, block-length, front_lines, own-lines, lines_around}
+use Rattle.replaced.proofs.CueBlocks.{around, CueBlock, cue-block_at, first_line_lem, block-length, front_lines, own-lines, lines_around}
 use Rattle.edits.proofs.Splices.{get_d_front}
 
 -- an element that is there does not depend on what stands for one that is not

@@ -6,28 +6,27 @@ use mathlib.Core.Bool.{Bool, true, false, cond}
 use mathlib.Core.List.{List, [], ◌∷◌, map}
 use mathlib.Core.Option.{Option, none, some}
 use native.Mathlib.Omega.{arith}
-use lib.ListN.{length, get_or, set, take, length-map, get_or-map}
+use lib.ListN.{length, get_or, length-map, get_or-map}
 use lib.Seq.{set-set, get_or-set_same}
 use borrow.Author.Tests.{le-ltb}
 use Rattle.format.specs.Limits.{max_file}
 use Rattle.format.specs.Plain.{plain_text}
 use Rattle.format.specs.Lines.{split}
 use Rattle.format.specs.Lists.{lists}
-use Rattle.format.specs.LineNumbers.{line_spans, span_at, LinesMoved}
+use Rattle.format.specs.LineNumbers.{line_spans, span_at}
 use Rattle.format.specs.Contents.{CueContents, Contents, contents}
 use Rattle.format.specs.Written.{cue_lines}
 use Rattle.format.specs.Answers.{Answer, accepted, refused, if_accepted, and_then, file_answer, placed}
 use Rattle.format.specs.Converting.{converting}
 use Rattle.format.specs.Replacing.{cue_asked, region_names, new_form, new_file, with_cue, unless_test, replacing_is, replacing_text, replacing, replaced_room}
-use Rattle.format.specs.Edits.{after_checks, Change, checked, changed, Answered, Leaves, EitherOrder, SameFile, SameAnswer, AnyOrder, Twice, OldCue, SameReading, PutBack}
-use Rattle.format.specs.declared.rows.LineSpan.{LineSpan}
+use Rattle.format.specs.Edits.{after_checks, Change, checked, changed, Answered, Leaves, EitherOrder, SameFile, SameAnswer, AnyOrder, Twice, PutBack}
 use Rattle.laws.proofs.Answers.{front, file-made}
 use Rattle.laws.proofs.LineNumbers.{spans_length, read_lines}
 use Rattle.replaced.proofs.Asked.{form_begins}
 use Rattle.replaced.proofs.Spans.{put_back as lines-back}
 use Rattle.replaced.proofs.Files.{Passes, NewFile, passes, accepts, new_file_lem}
 use Rattle.edits.proofs.Moved.{get_d_any}
-use Rattle.edits.proofs.Changed.{contents-count, names_same, count_same, form_same, checks_same, passes_still, either_file, twice_file}
+use Rattle.edits.proofs.Changed.{contents-count, names_same, count_same, form_same, checks_same, either_file, twice_file}
 
 -- a change that passes the checks of a file
 abbrev Fits : List ℕ → Change → Type 0

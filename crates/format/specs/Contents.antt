@@ -5,13 +5,11 @@ use Rattle.format.specs.Texts.{bytes_at}
 use Rattle.format.specs.RegionSettings.{RegionValues}
 use Rattle.format.specs.Lists.{Cue, Lists, lists}
 use Rattle.format.specs.Rows.{region_for, cue_entry, region_entry, style_entry, region_rows, style_rows, stored_cues}
-use Rattle.format.specs.declared.settings.Span.{Span}
 use Rattle.format.specs.declared.settings.Settings.{Settings}
 use Rattle.format.specs.declared.regions.RegionSettings.{RegionSettings}
 use Rattle.format.specs.declared.regions.Region.{Region}
 use Rattle.format.specs.declared.rows.CueEntry.{CueEntry}
 use Rattle.format.specs.declared.rows.RegionIndex.{RegionIndex}
-use Rattle.format.specs.declared.rows.RegionIndex.TheVariants as RegionIndex
 
 -- "a cue's contents are its identifier, times, text and settings (…, the region as an index in the list)"
 pub record CueContents : Type 0 where

@@ -1,5 +1,5 @@
 -- Document 01, "Settings", for cues: the opening values, and each setting as what it changes in the settings read so far.
-use Rattle.std.specs.Prelude.{ℕ, ◌+◌, Bool, true, false, cond, not, ◌||◌, List, [], ◌∷◌, eqb, length}
+use Rattle.std.specs.Prelude.{ℕ, ◌+◌, Bool, true, false, cond, not, ◌||◌, List, eqb, length}
 use Rattle.std.proofs.Math.Option.{Option, none, some, Option-elim}
 use Rattle.format.specs.Bytes.{ascii, comma, percent}
 use Rattle.format.specs.Texts.{Part, empty_part, is_empty, same, ends_with, before_first, after_first, has}
@@ -8,17 +8,12 @@ use Rattle.format.specs.Tokens.{tokens, name_of, value_of, Flagged, unflagged, f
 use Rattle.format.specs.declared.settings.Span.{Span}
 use Rattle.format.specs.declared.settings.Settings.{Settings}
 use Rattle.format.specs.declared.settings.Change.{Change}
-use Rattle.format.specs.declared.settings.Change.TheVariants as Change
 use Rattle.format.specs.declared.settings.Direction.{Direction}
 use Rattle.format.specs.declared.settings.LineAlign.{LineAlign}
 use Rattle.format.specs.declared.settings.PositionAlign.{PositionAlign}
 use Rattle.format.specs.declared.settings.Align.{Align}
-use Rattle.format.specs.declared.settings.Direction.TheVariants as Direction
 use Rattle.format.specs.declared.settings.Line.TheVariants as Line
-use Rattle.format.specs.declared.settings.LineAlign.TheVariants as LineAlign
 use Rattle.format.specs.declared.settings.Position.TheVariants as Position
-use Rattle.format.specs.declared.settings.PositionAlign.TheVariants as PositionAlign
-use Rattle.format.specs.declared.settings.Align.TheVariants as Align
 
 -- "horizontal, line auto, snap on, line alignment start, position and its alignment auto, size 100, align center, no region"
 abbrev pub opening_settings : Settings

@@ -6,7 +6,6 @@ use Rattle.format.specs.Writable.{names_of}
 use Rattle.format.specs.Answers.{Answer, accepted}
 use Rattle.format.specs.declared.RegionFound.{RegionFound}
 use Rattle.format.specs.declared.rows.RegionIndex.{RegionIndex}
-use Rattle.format.specs.declared.rows.RegionIndex.TheVariants as RegionIndex
 
 -- one record more was seen
 abbrev pub one_more : RegionFound → RegionFound

@@ -4,7 +4,6 @@ use Rattle.format.specs.Contents.{cue_of_row}
 use Rattle.format.specs.Writable.{cue_test1}
 use Rattle.format.specs.Answers.{Answer, accepted, refused, if_accepted}
 use Rattle.format.specs.declared.PartAnswer.{PartAnswer}
-use Rattle.format.specs.declared.PartAnswer.TheVariants as PartAnswer
 
 -- the number and the values of each case; a cue that is not writable is of list 2, and fails test 1
 unfoldable pub part_answer_is : PartAnswer → Answer

@@ -7,9 +7,7 @@ use Rattle.format.specs.Lists.{items, Lists, lists, any_over}
 use Rattle.format.specs.Answers.{Answer, accepted, refused, refused_only_by, if_accepted, and_then, placed}
 use Rattle.format.specs.Converting.{converting}
 use Rattle.format.specs.declared.FileReading.{FileReading}
-use Rattle.format.specs.declared.FileReading.TheVariants as FileReading
 use Rattle.format.specs.declared.Reading.{Reading}
-use Rattle.format.specs.declared.Reading.TheVariants as Reading
 
 -- the number and the values of each case; the counts are of cues, regions, styles
 unfoldable pub reading_is : Reading → Answer

@@ -9,10 +9,8 @@ use Rattle.format.specs.Tokens.{Flagged, unflagged, folded, tokens, name_of, val
 use Rattle.format.specs.CueSettings.{span_is}
 use Rattle.format.specs.declared.regions.Point.{Point}
 use Rattle.format.specs.declared.regions.Scroll.{Scroll}
-use Rattle.format.specs.declared.regions.Scroll.TheVariants as Scroll
 use Rattle.format.specs.declared.regions.RegionSettings.{RegionSettings}
 use Rattle.format.specs.declared.regions.RegionChange.{RegionChange}
-use Rattle.format.specs.declared.regions.RegionChange.TheVariants as RegionChange
 use Rattle.format.specs.declared.regions.Region.{Region}
 
 pub record RegionValues : Type 0 where

@@ -1,5 +1,5 @@
 -- Document 01, "Replacing one cue": raw lines, a cue's own bytes, the cue asked for, the new file, what replacing answers, and demand 3.
-use Rattle.std.specs.Prelude.{ℕ, ◌+◌, ◌-◌, ◌≤◌, ◌≡◌, Bool, true, false, cond, not, ◌&&◌, ◌||◌, List, [], ◌∷◌, ◌++◌, map, eqb, ltb, length, get_or, set, take, drop}
+use Rattle.std.specs.Prelude.{ℕ, ◌+◌, ◌-◌, ◌≤◌, ◌≡◌, Bool, true, false, cond, not, ◌&&◌, ◌||◌, List, [], ◌∷◌, ◌++◌, eqb, ltb, length, get_or, set, take, drop}
 use Rattle.std.proofs.Math.Option.{Option, none, some}
 use Rattle.format.specs.Bytes.{lf, cr}
 use Rattle.format.specs.Texts.{starts_with, is_empty, bytes_at}
@@ -17,7 +17,6 @@ use Rattle.format.specs.Reading.{ReadsAgain}
 use Rattle.format.specs.Writable.{first_failing, part_plain, cue_test1, cue_tests}
 use Rattle.format.specs.Written.{cue_lines}
 use Rattle.format.specs.declared.Replacing.{Replacing}
-use Rattle.format.specs.declared.Replacing.TheVariants as Replacing
 
 -- a raw line, and what ends it: "Raw lines end at CR LF, at any other CR or LF, or with the file"
 pub record RawLine : Type 0 where

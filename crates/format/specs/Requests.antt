@@ -1,5 +1,5 @@
 -- The request line of `mend`, and what mending answers. What is quoted is README's, of that line.
-use Rattle.std.specs.Prelude.{ℕ, ◌+◌, Bool, cond, not, ◌&&◌, ◌||◌, List, [], ◌∷◌, ◌++◌, eqb, ltb, length, get_or}
+use Rattle.std.specs.Prelude.{ℕ, ◌+◌, Bool, cond, not, ◌&&◌, ◌||◌, List, [], ◌++◌, eqb, ltb, length, get_or}
 use Rattle.std.proofs.Math.Option.{Option, none, some, bind, map, Option-elim}
 use Rattle.format.specs.Limits.{max_request, max_mended}
 use Rattle.format.specs.Bytes.{ascii, lf}
@@ -12,7 +12,6 @@ use Rattle.format.specs.Answers.{Answer, refused, if_accepted, placed}
 use Rattle.format.specs.Converting.{converted_room}
 use Rattle.format.specs.Replacing.{new_file, replacing_is, replacing}
 use Rattle.format.specs.declared.Mending.{Mending}
-use Rattle.format.specs.declared.Mending.TheVariants as Mending
 use Rattle.format.specs.declared.settings.Settings.{Settings}
 use Rattle.format.specs.declared.settings.Span.{Span}
 use Rattle.format.specs.declared.rows.CueEntry.{CueEntry}

@@ -9,7 +9,6 @@ use Rattle.format.specs.Answers.{Answer, accepted, refused, if_accepted, and_the
 use Rattle.format.specs.Reading.{reading_raw}
 use Rattle.format.specs.Writing.{writing}
 use Rattle.format.specs.declared.Rewriting.{Rewriting}
-use Rattle.format.specs.declared.Rewriting.TheVariants as Rewriting
 
 -- the number and the values of each case
 unfoldable pub rewriting_is : Rewriting → Answer

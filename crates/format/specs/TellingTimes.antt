@@ -8,9 +8,7 @@ use Rattle.format.specs.Answers.{Answer, accepted, refused, limited}
 use Rattle.format.specs.declared.times.TimeFault.{TimeFault}
 use Rattle.format.specs.declared.times.TimeFault.TheVariants as Fault
 use Rattle.format.specs.declared.times.Stamp.{Stamp}
-use Rattle.format.specs.declared.times.Stamp.TheVariants as Stamp
 use Rattle.format.specs.declared.times.TimingLine.{TimingLine}
-use Rattle.format.specs.declared.times.TimingLine.TheVariants as TimingLine
 
 -- "digit missing, wrong digit count, colon missing, full stop missing, value over 59. … Timing lines …, adding 'arrow missing'; so do cue-text
 -- timestamps, adding 'something after the time'", numbered in this order

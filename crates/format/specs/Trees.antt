@@ -11,9 +11,7 @@ use Rattle.format.specs.CueText.{Token, string_token, start_tag, end_tag, timest
 use Rattle.format.specs.Rows.{word}
 use Rattle.format.specs.Answers.{Answer, accepted, refused, if_accepted, placed}
 use Rattle.format.specs.declared.kinds.NodeKind.{NodeKind}
-use Rattle.format.specs.declared.kinds.NodeKind.TheVariants as NodeKind
 use Rattle.format.specs.declared.Tree.{Tree}
-use Rattle.format.specs.declared.Tree.TheVariants as Tree
 
 -- a node: the index of its parent, none where that is the root; its classes in one string; its value, of a string, a voice or a language; a
 -- timestamp's milliseconds

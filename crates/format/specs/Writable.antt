@@ -13,15 +13,11 @@ use Rattle.format.specs.Contents.{CueContents, RegionContents, cue_of_row, regio
 use Rattle.format.specs.declared.settings.Span.{Span}
 use Rattle.format.specs.declared.settings.Settings.{Settings}
 use Rattle.format.specs.declared.settings.Line.{Line}
-use Rattle.format.specs.declared.settings.Line.TheVariants as Line
 use Rattle.format.specs.declared.settings.LinePlace.{LinePlace}
 use Rattle.format.specs.declared.settings.LineAlign.{LineAlign}
-use Rattle.format.specs.declared.settings.LineAlign.TheVariants as LineAlign
 use Rattle.format.specs.declared.settings.Position.{Position}
-use Rattle.format.specs.declared.settings.Position.TheVariants as Position
 use Rattle.format.specs.declared.settings.PositionPlace.{PositionPlace}
 use Rattle.format.specs.declared.settings.PositionAlign.{PositionAlign}
-use Rattle.format.specs.declared.settings.PositionAlign.TheVariants as PositionAlign
 use Rattle.format.specs.declared.regions.Point.{Point}
 
 -- the first test that fails, counted from 1

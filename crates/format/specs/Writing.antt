@@ -1,7 +1,6 @@
 -- Writing lists to a file: document 01's numbers and values, and what the output room holds after it.
-use Rattle.std.specs.Prelude.{ℕ, ◌+◌, ◌≡◌, cond, List, [], ◌∷◌, ltb, length}
+use Rattle.std.specs.Prelude.{ℕ, ◌+◌, ◌≡◌, List, [], ◌∷◌, length}
 use Rattle.std.proofs.Math.Option.{Option, none, some}
-use Rattle.format.specs.Limits.{max_file}
 use Rattle.format.specs.Plain.{plain_text}
 use Rattle.format.specs.Lists.{lists}
 use Rattle.format.specs.Reading.{ReadsAgain}
@@ -10,7 +9,6 @@ use Rattle.format.specs.Writable.{cue_fails, region_fails, style_fails}
 use Rattle.format.specs.Contents.{Contents, contents, contents_of_rows, stored_contents}
 use Rattle.format.specs.Written.{written}
 use Rattle.format.specs.declared.Writing.{Writing}
-use Rattle.format.specs.declared.Writing.TheVariants as Writing
 
 -- the number and the values of each case: which list (0 styles, 1 regions, 2 cues), index in it, first failing test
 unfoldable pub writing_is : Writing → Answer

@@ -1,6 +1,6 @@
 -- Document 01, "the one written form": what is written of a time, a number, a setting, a cue, a region, a style, and of whole lists. It is
 -- made of tokens and lines; these are joined at the end.
-use Rattle.std.specs.Prelude.{ℕ, zero, suc, ◌+◌, ◌/◌, ◌%◌, Bool, true, false, cond, ◌&&◌, List, [], ◌∷◌, ◌++◌, map, eqb, leb, length, get_or}
+use Rattle.std.specs.Prelude.{ℕ, zero, suc, ◌+◌, ◌/◌, ◌%◌, Bool, cond, ◌&&◌, List, [], ◌∷◌, ◌++◌, map, eqb, leb, length, get_or}
 use Rattle.std.proofs.Math.Option.{Option, none, some}
 use Rattle.format.specs.Bytes.{ascii, lf, space, percent, comma, hyphen, full_stop, colon}
 use Rattle.format.specs.Texts.{is_empty}
@@ -8,22 +8,15 @@ use Rattle.format.specs.Lines.{split}
 use Rattle.format.specs.Contents.{CueContents, RegionContents, Contents}
 use Rattle.format.specs.declared.settings.Settings.{Settings}
 use Rattle.format.specs.declared.settings.Direction.{Direction}
-use Rattle.format.specs.declared.settings.Direction.TheVariants as Direction
 use Rattle.format.specs.declared.settings.Line.{Line}
-use Rattle.format.specs.declared.settings.Line.TheVariants as Line
 use Rattle.format.specs.declared.settings.LinePlace.{LinePlace}
 use Rattle.format.specs.declared.settings.LineAlign.{LineAlign}
-use Rattle.format.specs.declared.settings.LineAlign.TheVariants as LineAlign
 use Rattle.format.specs.declared.settings.Position.{Position}
-use Rattle.format.specs.declared.settings.Position.TheVariants as Position
 use Rattle.format.specs.declared.settings.PositionPlace.{PositionPlace}
 use Rattle.format.specs.declared.settings.PositionAlign.{PositionAlign}
-use Rattle.format.specs.declared.settings.PositionAlign.TheVariants as PositionAlign
 use Rattle.format.specs.declared.settings.Align.{Align}
-use Rattle.format.specs.declared.settings.Align.TheVariants as Align
 use Rattle.format.specs.declared.regions.Point.{Point}
 use Rattle.format.specs.declared.regions.Scroll.{Scroll}
-use Rattle.format.specs.declared.regions.Scroll.TheVariants as Scroll
 
 -- the last k decimal digits of a number
 unfoldable pub last_digits : ℕ → ℕ → List ℕ

@@ -9,9 +9,7 @@ use Rattle.format.specs.Tokens.{Flagged, folded}
 use Rattle.format.specs.CueSettings.{name_after, is_horizontal}
 use Rattle.format.specs.RegionSettings.{RegionValues, opening_region, id_after}
 use Rattle.format.specs.declared.settings.Change.{Change}
-use Rattle.format.specs.declared.settings.Change.TheVariants as Change
 use Rattle.format.specs.declared.regions.RegionChange.{RegionChange}
-use Rattle.format.specs.declared.regions.RegionChange.TheVariants as RegionChange
 
 -- the values with which a region's settings are folded
 abbrev pub opening_values : RegionValues

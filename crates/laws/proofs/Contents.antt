@@ -1,15 +1,11 @@
 -- The contents of lists do not depend on places and line numbers: setting each of them to 0 commutes with reading.
 use Prim.Native.Nat.{ℕ, suc, ◌+◌, ◌-◌}
 use mathlib.Core.Path.{◌≡◌, refl, sym, ap, ◌∙◌}
-use mathlib.Core.Bool.{Bool, true, false, cond, ◌||◌, ◌&&◌}
+use mathlib.Core.Bool.{Bool, true, false, cond, ◌||◌}
 use mathlib.Core.List.{List, [], ◌∷◌, map}
-use mathlib.Core.Option.{Option, none, some}
-use lib.Dec.{eqb, ltb}
 use lib.ListN.{length}
-use Rattle.format.specs.Bytes.{ascii, white, percent, comma}
-use Rattle.format.specs.Limits.{max_line}
-use Rattle.format.specs.Texts.{Part, empty_part, is_empty, same, ends_with, before_first}
-use Rattle.format.specs.Numbers.{percentage, LineNumber, line_number, over_line, line_count}
+use Rattle.format.specs.Bytes.{ascii, white}
+use Rattle.format.specs.Texts.{Part, empty_part}
 use Rattle.format.specs.Tokens.{in_token, on_token, before_tokens, tokens, name_of, value_of, Flagged, folded}
 use Rattle.format.specs.CueSettings.{CueSettings, settings_after, is_over, cue_change, changed, cue_setting, cue_settings}
 use Rattle.format.specs.RegionSettings.{RegionValues, region_change, region_after, over_region, region_setting, region_settings}

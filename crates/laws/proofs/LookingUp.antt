@@ -15,7 +15,6 @@ use Rattle.format.specs.Rows.{index_is}
 use Rattle.format.specs.LookingUp.{one_more, look_up_back, look_up, LastAt, Last}
 use Rattle.format.specs.declared.RegionFound.{RegionFound}
 use Rattle.format.specs.declared.rows.RegionIndex.{RegionIndex}
-use Rattle.format.specs.declared.rows.RegionIndex.TheVariants as RegionIndex
 use Rattle.laws.proofs.Tests.{by-test}
 use Rattle.laws.proofs.Runs.{same-is}
 

@@ -1,8 +1,8 @@
 -- Rows and what they say: coding and decoding are inverse, and the rows that reading stores have the contents of what was read.
 use Prim.Native.Nat.{ℕ, suc, ◌+◌, ◌-◌, ◌≤◌, ◌<◌, min}
-use mathlib.Core.Path.{◌≡◌, refl, sym, ap, ◌∙◌}
+use mathlib.Core.Path.{◌≡◌, refl, ap, ◌∙◌}
 use mathlib.Core.Bool.{Bool, true, false, ◌||◌, ◌&&◌}
-use mathlib.Core.List.{List, [], ◌∷◌, ◌++◌, map}
+use mathlib.Core.List.{List, [], ◌∷◌, map}
 use mathlib.Core.Option.{Option, none, some}
 use native.Mathlib.Omega.{arith}
 use lib.Dec.{eqb, ltb}
@@ -10,37 +10,29 @@ use lib.ListN.{length, take, drop, length-append}
 use borrow.Author.Tests.{lt-ltb, ltb-true, ne_eqb}
 use Rattle.format.specs.Limits.{max_text}
 use Rattle.format.specs.Bytes.{lf}
-use Rattle.format.specs.Texts.{Part, empty_part, is_empty, bytes_at}
+use Rattle.format.specs.Texts.{Part, is_empty, bytes_at}
 use Rattle.format.specs.Lines.{split_list_at, split, before, on_first}
 use Rattle.format.specs.CueSettings.{span_is}
 use Rattle.format.specs.RegionSettings.{RegionValues, last_named, region_is}
 use Rattle.format.specs.Blocks.{Line as TextLine, lines_at, Collecting, between, header, inside, stops, begin, go_on, collected, ended, next, blocks_from, after_signature, blocks}
 use Rattle.format.specs.Lists.{Cue, Item, nothing, cue, style, region, meaning, is_cue, items_from, items, Lists, into, listed, lists}
 use Rattle.format.specs.Rows.{direction_of, line_of, line_align_of, position_of, position_align_of, align_of, region_index_of, scroll_of, direction_word, line_word, line_number_word, snap_word, line_align_word, position_word, position_number_word, position_align_word, align_word, region_word, scroll_word, greatest_word}
-use Rattle.format.specs.Rows.{word, cue_entry_with, cue_words, region_words, style_words, cue_entry, region_entry, style_entry, cue_span, region_for, entry_is, ids, index_is, cue_rows, region_rows, style_rows, stored_cues}
+use Rattle.format.specs.Rows.{word, cue_entry_with, cue_words, region_words, style_words, cue_entry, region_entry, cue_span, region_for, entry_is, ids, index_is, cue_rows, region_rows, style_rows, stored_cues}
 use Rattle.format.specs.LineNumbers.{line_spans}
-use Rattle.format.specs.Contents.{CueContents, cue_contents, region_contents, contents, option_of, cue_of_entry, region_of_entry, cue_of_row, region_of_row, style_of_row, contents_of_rows, stored_contents}
+use Rattle.format.specs.Contents.{cue_contents, region_contents, contents, option_of, cue_of_entry, region_of_entry, cue_of_row, region_of_row, style_of_row, contents_of_rows, stored_contents}
 use Rattle.laws.proofs.Tests.{by-test}
 use Rattle.laws.proofs.Names.{found}
 use Rattle.laws.proofs.LineNumbers.{spans_length}
 use Rattle.laws.proofs.Standing.{All, Stands, Signed, CueStands, lists_stand}
 use Rattle.format.specs.declared.settings.Direction.{Direction}
-use Rattle.format.specs.declared.settings.Direction.TheVariants as Direction
 use Rattle.format.specs.declared.settings.Line.{Line}
-use Rattle.format.specs.declared.settings.Line.TheVariants as Line
 use Rattle.format.specs.declared.settings.LineAlign.{LineAlign}
-use Rattle.format.specs.declared.settings.LineAlign.TheVariants as LineAlign
 use Rattle.format.specs.declared.settings.Position.{Position}
-use Rattle.format.specs.declared.settings.Position.TheVariants as Position
 use Rattle.format.specs.declared.settings.PositionAlign.{PositionAlign}
-use Rattle.format.specs.declared.settings.PositionAlign.TheVariants as PositionAlign
 use Rattle.format.specs.declared.settings.Align.{Align}
-use Rattle.format.specs.declared.settings.Align.TheVariants as Align
 use Rattle.format.specs.declared.regions.Region.{Region}
 use Rattle.format.specs.declared.regions.Scroll.{Scroll}
-use Rattle.format.specs.declared.regions.Scroll.TheVariants as Scroll
 use Rattle.format.specs.declared.rows.RegionIndex.{RegionIndex}
-use Rattle.format.specs.declared.rows.RegionIndex.TheVariants as RegionIndex
 use Rattle.format.specs.declared.rows.CueEntry.{CueEntry}
 use Rattle.format.specs.declared.rows.LineSpan.{LineSpan}
 

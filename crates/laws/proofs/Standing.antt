@@ -10,17 +10,14 @@ use lib.ListN.{length, take, drop, length-append, length-drop}
 use borrow.Author.Tests.{ltb-true}
 use lib.Seq.{take-length, append_snoc, take-take, take-add, take-append_seam, drop-append_seam, drop-drop}
 use Rattle.format.specs.Bytes.{ascii, lf, white, colon, percent, comma}
-use Rattle.format.specs.Limits.{max_line}
 use Rattle.format.specs.Texts.{Part, empty_part, is_empty, same, ends_with, before_first}
-use Rattle.format.specs.Numbers.{percentage, LineNumber, line_number, over_line, is_negative, millionths, line_count}
+use Rattle.format.specs.Numbers.{percentage, LineNumber, line_number, over_line, is_negative, millionths}
 use Rattle.format.specs.Tokens.{in_token, on_token, before_tokens, tokens, name_of, value_of, Flagged, folded}
 use Rattle.format.specs.CueSettings.{CueSettings, settings_after, line_align, line_at_percentage, line_counted, line_aligned, line_change}
 use Rattle.format.specs.CueSettings.{position_align, position_aligned, position_change, named, cue_change, changed, cue_setting, cue_settings}
 use Rattle.format.specs.declared.settings.Settings.{Settings}
 use Rattle.format.specs.declared.settings.Change.{Change}
-use Rattle.format.specs.declared.settings.Change.TheVariants as Change
 use Rattle.format.specs.declared.settings.Line.{Line as LineSetting}
-use Rattle.format.specs.declared.settings.Line.TheVariants as LineSetting
 use Rattle.format.specs.declared.settings.LineAlign.{LineAlign}
 use Rattle.format.specs.declared.settings.PositionAlign.{PositionAlign}
 use Rattle.format.specs.Tokens.{Flagged, unflagged, folded}

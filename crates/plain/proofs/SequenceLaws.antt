@@ -10,7 +10,6 @@ use lib.Seq.{drop-cons, drop-drop}
 use Rattle.format.specs.Plain.{Range, ◌to◌, within, table, following, fits}
 use Rattle.laws.proofs.Runs.{drop-first}
 use Rattle.laws.proofs.Sequences.{sequence_of_lem, sequence_broken, sequence-none, begun_of_lem, begun-none}
-use Rattle.plain.specs.declared.pieces.Piece.{Piece}
 use Rattle.plain.specs.declared.pieces.Piece.TheVariants.{Keep, Replace}
 use Rattle.plain.specs.Lead.{row_of, starts_in}
 use Rattle.plain.specs.Pieces.{kept_or, run_of}

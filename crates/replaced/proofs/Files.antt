@@ -1,6 +1,6 @@
 -- Demand 3: where replacing is accepted, the new file has the old bytes around the cue's own, reads as the old lists with that one cue
 -- replaced, has the lines of the later cues moved, and is refused by no number but 2 and 6.
-use Prim.Native.Nat.{ℕ, zero, suc, ◌+◌, ◌-◌, ◌≤◌, ◌<◌}
+use Prim.Native.Nat.{ℕ, zero, suc, ◌+◌, ◌≤◌, ◌<◌}
 use mathlib.Core.Path.{◌≡◌, refl, sym, ap, ◌∙◌}
 use mathlib.Core.Bool.{true, false, not}
 use mathlib.Core.List.{List, [], ◌∷◌, ◌++◌, append_assoc}
@@ -20,7 +20,6 @@ use Rattle.format.specs.LineNumbers.{cue_blocks, line_spans, LinesMoved}
 use Rattle.format.specs.Replacing.{raw_lines, first_line, last_line, own_start, own_end, cue_asked, new_cue_fails, with_region, region_names, new_form, new_file, with_cue, no_gap, unless_test, replacing_is, replacing_text, replacing, replaced_room, Replaced}
 use Rattle.format.specs.Edits.{after_checks}
 use Rattle.format.specs.declared.Replacing.{Replacing}
-use Rattle.format.specs.declared.Replacing.TheVariants as Replacing
 use Rattle.laws.proofs.Answers.{after_test, after-answer, front, file-made, reads-again}
 use Rattle.replaced.proofs.RawLines.{spliced, lines-replaced, signature-first}
 use Rattle.replaced.proofs.CueBlocks.{LinesReplaced, cue-block_at, lines_read}

@@ -13,7 +13,6 @@ use Rattle.format.specs.Written.{file_lines, line_ended, written}
 use Rattle.format.specs.Answers.{accepted, if_accepted, file_answer, placed}
 use Rattle.format.specs.Writing.{writing_is, first_in, file_of, writing, written_room, ReadBack}
 use Rattle.format.specs.declared.Writing.{Writing}
-use Rattle.format.specs.declared.Writing.TheVariants as Writing
 use Rattle.laws.proofs.PlainText.{plain_text_keeps}
 use Rattle.laws.proofs.Answers.{front, file-made, reads-again}
 use Rattle.laws.proofs.Rows.{rows_say}

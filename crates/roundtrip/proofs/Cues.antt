@@ -8,16 +8,15 @@ use mathlib.Core.Option.{Option, none, some, Option-elim}
 use native.Mathlib.Omega.{arith}
 use lib.Dec.{eqb, leb, ltb}
 use lib.ListN.{length, get_or}
-use borrow.Author.Tests.{ne_eqb, eqb-true, eq-eqb, ltb-true, leb-true, le-ltb, not-true}
+use borrow.Author.Tests.{ne_eqb, eqb-true, eq-eqb, ltb-true, leb-true, not-true}
 use Rattle.format.specs.Bytes.{ascii, white, lf, percent, comma, hyphen, full_stop, colon, digit}
-use Rattle.format.specs.Texts.{Part, empty_part, is_empty, same, all, run, ends_with, starts_with, past_run, before_first, has, bytes_at}
+use Rattle.format.specs.Texts.{Part, empty_part, is_empty, same, all, run, ends_with, starts_with, past_run, before_first, has}
 use Rattle.format.specs.Tokens.{Flagged, unflagged, folded}
 use Rattle.format.specs.CueSettings.{CueSettings, opening_settings, settings_after, name_after, is_over, direction, line_align, line_at_percentage, line_counted}
 use Rattle.format.specs.CueSettings.{line_aligned, line_change, position_align, position_aligned, position_change, alignment, named, cue_change}
 use Rattle.format.specs.CueSettings.{changed, cue_setting, cue_settings}
 use Rattle.format.specs.declared.settings.Settings.{Settings}
 use Rattle.format.specs.declared.settings.Change.{Change}
-use Rattle.format.specs.declared.settings.Change.TheVariants as Change
 use Rattle.format.specs.Written.{last_digits, decimal_in, written_time, without_zeros, fraction, written_decimal, written_percentage, setting}
 use Rattle.format.specs.Written.{written_vertical, written_line_align, written_line_number, written_line, written_position_align, written_position}
 use Rattle.format.specs.Written.{written_size, written_align, written_five, written_region_name, written_settings, after_spaces, written_timing, line_ended}
@@ -30,20 +29,14 @@ use Rattle.format.specs.Times.{value, got, on_got, expect}
 use Rattle.format.specs.TimingLines.{arrow, arrow_and_end, timings, Timing, with_settings, timing_of, timed_line, timing_line}
 use Rattle.format.specs.Contents.{CueContents, RegionContents, cue_of_entry, cue_of_row, region_of_row}
 use Rattle.format.specs.declared.settings.Direction.{Direction}
-use Rattle.format.specs.declared.settings.Direction.TheVariants as Direction
 use Rattle.format.specs.declared.settings.Line.{Line}
-use Rattle.format.specs.declared.settings.Line.TheVariants as Line
 use Rattle.format.specs.declared.settings.LinePlace.{LinePlace}
 use Rattle.format.specs.declared.settings.LineAlign.{LineAlign}
-use Rattle.format.specs.declared.settings.LineAlign.TheVariants as LineAlign
 use Rattle.format.specs.declared.settings.Position.{Position}
-use Rattle.format.specs.declared.settings.Position.TheVariants as Position
 use Rattle.format.specs.declared.settings.PositionPlace.{PositionPlace}
 use Rattle.format.specs.declared.settings.PositionAlign.{PositionAlign}
-use Rattle.format.specs.declared.settings.PositionAlign.TheVariants as PositionAlign
 use Rattle.format.specs.declared.settings.Align.{Align}
-use Rattle.format.specs.declared.settings.Align.TheVariants as Align
-use Rattle.laws.proofs.Tests.{and_left, and_right, and_both, and-false, or_true, by-test, absent, absent_append}
+use Rattle.laws.proofs.Tests.{and_left, and_right, and_both, or_true, by-test, absent, absent_append}
 use Rattle.laws.proofs.Tokens.{inside as black}
 use Rattle.laws.proofs.Standing as Standing
 use Rattle.format.specs.Replacing.{with_region}

@@ -14,12 +14,12 @@ use Rattle.format.specs.Plain.{Plain}
 use Rattle.format.specs.RegionSettings.{RegionValues, last_named}
 use Rattle.format.specs.TimingLines.{timing_line}
 use Rattle.format.specs.Blocks.{lines_at, bytes_of, blocks, has_signature, joined}
-use Rattle.format.specs.Lists.{Cue, Item, cue, region, cue_of, meaning, is_cue, items_from, items, into, listed, lists, item_over, any_over}
+use Rattle.format.specs.Lists.{Cue, Item, cue, cue_of, meaning, is_cue, items_from, items, into, listed, lists, item_over, any_over}
 use Rattle.format.specs.Rows.{ids, region_for, style_entry}
 use Rattle.format.specs.Contents.{CueContents, RegionContents, Contents, cue_contents, region_contents, contents, contents_of_rows, cue_of_row, region_of_row, style_of_row}
 use Rattle.format.specs.Writable.{unbroken, is_index, last_of_its_name, names_of, cue_fails, region_fails, style_fails, cue_test1, cue_test6, cue_tests, region_test1, region_tests, style_test1}
 use Rattle.format.specs.Written.{style_lines, region_lines, written_timing, cue_lines, file_lines, written}
-use Rattle.format.specs.Answers.{Answer, accepted, refused}
+use Rattle.format.specs.Answers.{Answer, accepted}
 use Rattle.format.specs.Writing.{or_else, first_in, unless_failing, writing}
 use Rattle.laws.proofs.Tests.{and_left, and_right}
 use Rattle.laws.proofs.Standing.{All, bytes-lines}

@@ -20,20 +20,13 @@ use Rattle.format.specs.Written.{written_line_number, written_line, written_posi
 use Rattle.format.specs.Written.{written_region_name, written_five, written_settings, after_spaces, written_timing, lines_of, cue_lines, written_point, written_id}
 use Rattle.format.specs.Written.{written_scroll, region_lines, style_lines, apart, file_lines, line_ended, written}
 use Rattle.format.specs.declared.settings.Direction.{Direction}
-use Rattle.format.specs.declared.settings.Direction.TheVariants as Direction
 use Rattle.format.specs.declared.settings.Line.{Line}
-use Rattle.format.specs.declared.settings.Line.TheVariants as Line
 use Rattle.format.specs.declared.settings.LineAlign.{LineAlign}
-use Rattle.format.specs.declared.settings.LineAlign.TheVariants as LineAlign
 use Rattle.format.specs.declared.settings.Position.{Position}
-use Rattle.format.specs.declared.settings.Position.TheVariants as Position
 use Rattle.format.specs.declared.settings.PositionAlign.{PositionAlign}
-use Rattle.format.specs.declared.settings.PositionAlign.TheVariants as PositionAlign
 use Rattle.format.specs.declared.settings.Align.{Align}
-use Rattle.format.specs.declared.settings.Align.TheVariants as Align
 use Rattle.format.specs.declared.regions.Point.{Point}
 use Rattle.format.specs.declared.regions.Scroll.{Scroll}
-use Rattle.format.specs.declared.regions.Scroll.TheVariants as Scroll
 use Rattle.laws.proofs.Tests.{by-test, and_left, and_right, and_both, absent}
 use Rattle.laws.proofs.Sequences.{sequence-length, sequence-take, sequence-ascii}
 use Rattle.laws.proofs.Plainness.{Start, start_is, start_has, plain-sequence, plain-repair, plain_absent, repair-plain}

@@ -2,7 +2,7 @@
 -- it.
 use Prim.Native.Nat.{ℕ, suc, ◌+◌, ◌≤◌, ◌<◌}
 use mathlib.Core.Path.{◌≡◌, refl, sym, ap, ◌∙◌}
-use mathlib.Core.Bool.{Bool, true, false, not, ◌&&◌}
+use mathlib.Core.Bool.{true, false, not, ◌&&◌}
 use mathlib.Core.List.{List, [], ◌∷◌, ◌++◌, append_assoc, append-nil}
 use mathlib.Core.Option.{none, some, Option-elim}
 use native.Mathlib.Omega.{arith}
@@ -11,7 +11,7 @@ use lib.ListN.{length, length-append}
 use borrow.Author.Tests.{leb-true, le-ltb, lt-ltb, not-true}
 use Rattle.format.specs.Bytes.{ascii, digit, white, hyphen, comma, colon}
 use Rattle.format.specs.Limits.{max_line}
-use Rattle.format.specs.Texts.{Part, empty_part, starts_with, same, is_empty, all, has, bytes_at}
+use Rattle.format.specs.Texts.{Part, empty_part, starts_with, same, is_empty, all, has}
 use Rattle.format.specs.Lines.{join}
 use Rattle.format.specs.Blocks.{lines_at, holds_arrow}
 use Rattle.format.specs.Tokens.{Flagged, unflagged, folded, value_of}
@@ -24,9 +24,7 @@ use Rattle.format.specs.Written.{decimal_in, written_percentage, setting, writte
 use Rattle.format.specs.Writable.{at_most100, region_test1, region_test2, region_test3, region_test4, region_tests, region_fails}
 use Rattle.format.specs.declared.regions.Point.{Point}
 use Rattle.format.specs.declared.regions.Scroll.{Scroll}
-use Rattle.format.specs.declared.regions.Scroll.TheVariants as Scroll
 use Rattle.format.specs.declared.regions.RegionChange.{RegionChange}
-use Rattle.format.specs.declared.regions.RegionChange.TheVariants as RegionChange
 use Rattle.laws.proofs.Tests.{by-test, and_left, and_right, absent, absent_append}
 use Rattle.laws.proofs.Tokens.{inside as black, first_at}
 use Rattle.laws.proofs.Standing.{All}

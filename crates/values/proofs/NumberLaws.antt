@@ -16,7 +16,6 @@ use Rattle.format.specs.Numbers.{number, some_digits, Decimal, decimal_of, decim
 use Rattle.laws.proofs.Tests.{by-test, and-false}
 use Rattle.laws.proofs.Runs.{RunStart, ends_with-last, without_last-take}
 use Rattle.values.specs.declared.numbers.Percentage.{Percentage}
-use Rattle.values.specs.declared.numbers.Percentage.TheVariants as Percentage
 use Rattle.values.specs.Numbers.{cap, decimal_is, above_held, percentage_is, percentage_of, line_of, line_number_is}
 
 -- a test against a number below the cap is the same on the held value

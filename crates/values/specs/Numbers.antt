@@ -7,13 +7,9 @@ use Rattle.format.specs.Answers.{Answer, accepted, refused, limited}
 use Rattle.format.specs.Limits.{max_line}
 use Rattle.format.specs.Numbers as Format
 use Rattle.values.specs.declared.numbers.Decimal.{Decimal}
-use Rattle.values.specs.declared.numbers.Decimal.TheVariants as Decimal
 use Rattle.values.specs.declared.numbers.Percentage.{Percentage}
-use Rattle.values.specs.declared.numbers.Percentage.TheVariants as Percentage
 use Rattle.values.specs.declared.numbers.LineNumber.{LineNumber}
-use Rattle.values.specs.declared.numbers.LineNumber.TheVariants as LineNumber
 use Rattle.values.specs.declared.numbers.LineCount.{LineCount}
-use Rattle.values.specs.declared.numbers.LineCount.TheVariants as LineCount
 
 -- a number above every limit, at which greater ones are held
 abbrev pub cap : ℕ

@@ -5,9 +5,7 @@ use Rattle.format.specs.TellingTimes.{place_of}
 use Rattle.format.specs.declared.times.TimeFault.TheVariants as Fault
 use Rattle.values.specs.Numbers.{cap}
 use Rattle.values.specs.declared.times.Field.{Field}
-use Rattle.values.specs.declared.times.Field.TheVariants as Field
 use Rattle.format.specs.declared.times.Stamp.{Stamp}
-use Rattle.format.specs.declared.times.Stamp.TheVariants as Stamp
 
 -- n being the text's length
 abbrev pub field_is : ℕ → Result ℕ → Field

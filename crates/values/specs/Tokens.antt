@@ -5,9 +5,7 @@ use Rattle.format.specs.Tokens.{tokens, name_of, value_of}
 use Rattle.format.specs.CueSettings.{no_span}
 use Rattle.format.specs.declared.settings.Span.{Span}
 use Rattle.values.specs.declared.tokens.Token.{Token}
-use Rattle.values.specs.declared.tokens.Token.TheVariants as Token
 use Rattle.values.specs.declared.tokens.NameEnd.{NameEnd}
-use Rattle.values.specs.declared.tokens.NameEnd.TheVariants as NameEnd
 
 -- a token from one place up to another, and those after it
 pub record TokenHere (s : List ℕ) (i from to : ℕ) : Type 0 where

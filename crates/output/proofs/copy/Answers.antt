@@ -1,5 +1,5 @@
 use native.Mathlib.Omega.{arith}
-use Prim.Native.Nat.{ℕ, ◌+◌, ◌<◌, ◌-◌}
+use Prim.Native.Nat.{ℕ, ◌+◌, ◌<◌}
 use mathlib.Core.Path.{◌≡◌, refl, sym, ap, ◌∙◌}
 use mathlib.Core.List.{List, ◌++◌, append-nil}
 use native.Mathlib.Numerals.{add-one}
@@ -20,7 +20,7 @@ loop-i-init c = (omega arith, sym c.requires, refl)
 
 pub loop-i-preserved : goal.loop-i-preserved
 loop-i-preserved c =
-        let args = c.args in
+    let args = c.args in
     let s = args.s.now in
     let i = c.loop-i.i in (
       omega arith,
@@ -30,7 +30,7 @@ loop-i-preserved c =
 
 pub returns : goal.returns
 returns c =
-        let args = c.args in
+    let args = c.args in
     let s = args.s.now in
     let i = c.loop-i.i in
     c.loop-i.invariant.2 ∙ rw (take_all i s (omega arith), drop_of_length-le args.room.now {i = i} (omega arith)) (append-nil s)

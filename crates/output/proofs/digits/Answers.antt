@@ -34,7 +34,7 @@ loop-left-init c =
 
 pub loop-left-preserved : goal.loop-left-preserved
 loop-left-preserved c =
-        let k = c.args.k in
+    let k = c.args.k in
     let made = c.loop-left.made in
     let left = c.loop-left.left in
     let rest = c.loop-left.rest in (
@@ -53,6 +53,6 @@ slice_bounds-bytes-end c =
 pub returns : goal.returns
 unfolding last_digits
 returns c =
-            let k = c.args.k in
+    let k = c.args.k in
     let e : c.loop-left.left ≡ 0 = omega arith in
     puts_as (sym (c.loop-left.invariant.2 ∙ ap (λ j. last_digits j c.loop-left.rest ++ slice j k c.loop-left.made) e)) c.bytes.ensures

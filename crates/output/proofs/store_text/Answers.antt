@@ -30,7 +30,7 @@ returns-then-out-at c = let args = c.args in sym (sets-out args.out.now args.at 
 
 pub returns-then-s-fits : goal.returns-then-s-fits
 returns-then-s-fits c =
-        let args = c.args in
+    let args = c.args in
     let s = args.s.now in
     let out = args.out.now in
     let to = args.at + length s in
@@ -50,7 +50,7 @@ copy-requires-2 c =
 
 pub returns : goal.returns
 returns c =
-        let args = c.args in
+    let args = c.args in
     let s = args.s.now in
     let out = args.out.now in
     let fits = length out - args.at in

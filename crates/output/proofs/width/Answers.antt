@@ -1,5 +1,5 @@
 use native.Mathlib.Omega.{arith}
-use Prim.Native.Nat.{◌/◌, ◌^◌, ◌-◌}
+use Prim.Native.Nat.{◌/◌, ◌^◌}
 use mathlib.Core.Path.{◌≡◌, sym, ap, ◌∙◌}
 use native.Mathlib.Nat.{div-one}
 use native.Mathlib.Numerals.{add-one}
@@ -14,7 +14,7 @@ loop-w-init c = (omega arith, sym (div-one c.args.n), λ k h l z. omega arith)
 
 pub returns-then-rest-eq0 : goal.returns-then-rest-eq0
 returns-then-rest-eq0 c =
-        let args = c.args in
+    let args = c.args in
     let w = c.loop-w.w in
     let none = sym c.loop-w.invariant.1 ∙ c.if-rest-eq0.true in
     let dropped = zeros_dropped args.least w 20 args.n (omega arith) (omega arith) none in
@@ -22,7 +22,7 @@ returns-then-rest-eq0 c =
 
 pub loop-w-preserved : goal.loop-w-preserved
 loop-w-preserved c =
-        let args = c.args in
+    let args = c.args in
     let w = c.loop-w.w in
     let e = c.loop-w.invariant.1 in (
       omega arith,
@@ -32,7 +32,7 @@ loop-w-preserved c =
 
 pub returns : goal.returns
 returns c =
-        let args = c.args in
+    let args = c.args in
     let w = c.loop-w.w in
     let e : w ≡ 20 = omega arith in
     let none : args.n / 10 ^ 20 ≡ 0 = omega arith in

@@ -75,12 +75,12 @@ enough c from_whole =
 
 pub write-requires : goal.write-requires
 write-requires c =
-        (c.mark_len-from.ensures.0, omega (arith, enough (goal.at.write-requires c).Joined-room-raw (whole (goal.at.write-requires c).After-mark_len-from), whole (goal.at.write-requires c).After-mark_len-from))
+    (c.mark_len-from.ensures.0, omega (arith, enough (goal.at.write-requires c).Joined-room-raw (whole (goal.at.write-requires c).After-mark_len-from), whole (goal.at.write-requires c).After-mark_len-from))
 
 pub returns : goal.returns
 unfolding converted_is plain_text
 returns c =
-                let args = c.args in
+    let args = c.args in
     let raw = args.raw.now in
     let room = args.room.now in
     let ok = fits raw (length room) (omega arith) (enough (goal.at.returns c).Joined-room-raw (whole (goal.at.returns c).After-mark_len-from)) in

@@ -1,6 +1,5 @@
-use Prim.Native.Nat.{◌+◌, ◌≤◌, ◌<◌, ◌-◌}
+use Prim.Native.Nat.{◌+◌, ◌≤◌, ◌<◌}
 use mathlib.Core.Path.{◌≡◌, sym, ◌∙◌}
-use mathlib.Core.Logic.{⊎_elim}
 use native.Mathlib.Omega.{arith}
 use lib.ListN.{length, drop}
 use Rattle.format.specs.Plain.{first_not_plain}
@@ -10,25 +9,25 @@ use Rattle.plain.proofs.plain_len.Goals.{In-Keep}
 
 pub loop-i-preserved-then-stays : goal.loop-i-preserved-then-stays
 loop-i-preserved-then-stays c =
-        let s = c.args.s.now in
+    let s = c.args.s.now in
     omega (arith, plain_at_stays s c.loop-i.i (omega arith) (c.stays.ensures c.if-stays.true))
 
 pub returns-then-b-eq0 : goal.returns-then-b-eq0
 returns-then-b-eq0 c =
-        omega (arith, plain_at_nul c.args.s.now c.loop-i.i (omega arith) c.if-b-eq0.true)
+    omega (arith, plain_at_nul c.args.s.now c.loop-i.i (omega arith) c.if-b-eq0.true)
 
 pub returns-then-b-eq13 : goal.returns-then-b-eq13
 returns-then-b-eq13 c =
-        omega (arith, plain_at_cr c.args.s.now c.loop-i.i (omega arith) c.if-b-eq13.true)
+    omega (arith, plain_at_cr c.args.s.now c.loop-i.i (omega arith) c.if-b-eq13.true)
 
 -- a sequence stands at i: the text goes on after it
 passed :
     (c : In-Keep)
-    →     let s = c.args.s.now in
+    → let s = c.args.s.now in
     let n = c.in-Keep.n in
     (0 < n) × (c.loop-i.i + n ≤ length s) × (first_not_plain (drop c.loop-i.i s) ≡ n + first_not_plain (drop (c.loop-i.i + n) s))
 passed c =
-            plain_at_kept c.args.s.now c.loop-i.i (omega arith) c.in-Keep.n c.if-b-eq0.false c.if-b-eq13.false
+    plain_at_kept c.args.s.now c.loop-i.i (omega arith) c.in-Keep.n c.if-b-eq0.false c.if-b-eq13.false
     (sym c.in-Keep.is ∙ c.run_at.ensures)
 
 pub overflow_add-i-in-Keep : goal.overflow_add-i-in-Keep
@@ -42,7 +41,7 @@ loop-i-preserved c = omega (arith, passed (goal.at.loop-i-preserved c).In-Keep)
 
 pub returns-in_default : goal.returns-in_default
 returns-in_default c =
-            omega (
+    omega (
       arith,
       plain_at_other c.args.s.now c.loop-i.i (omega arith)
           (λ n e. c.in_default.not-Keep n (c.run_at.ensures ∙ e)),
@@ -50,4 +49,4 @@ returns-in_default c =
 
 pub returns : goal.returns
 returns c =
-        omega (arith, plain_at_end c.args.s.now c.loop-i.i c.loop-i-test.false)
+    omega (arith, plain_at_end c.args.s.now c.loop-i.i c.loop-i-test.false)

@@ -1,4 +1,4 @@
-use Prim.Native.Nat.{ℕ, ◌+◌, ◌≤◌, ◌-◌}
+use Prim.Native.Nat.{ℕ, ◌+◌, ◌≤◌}
 use mathlib.Core.Path.{◌≡◌, refl, ap, ◌∙◌}
 use mathlib.Core.List.{List, [], ◌∷◌, ◌++◌}
 use native.Mathlib.Omega.{arith}
@@ -39,7 +39,7 @@ loop-i-init c =
 
 pub bounds-room-n : goal.bounds-room-n
 bounds-room-n c =
-        let args = c.args in
+    let args = c.args in
     let next = at_stays args.s.now c.loop-i.i (omega arith) (c.stays.ensures c.if-stays.true) in
     omega (arith, ap length (c.loop-i.invariant.left ∙ next), length-drop c.loop-i.n (to_plain (drop args.from args.s.now)), c.loop-i.invariant.kept)
 
@@ -48,7 +48,7 @@ overflow_add-n c = omega (arith, c.loop-i.invariant.some)
 
 pub loop-i-preserved-then-stays : goal.loop-i-preserved-then-stays
 loop-i-preserved-then-stays c =
-            let s = c.args.s.now in
+    let s = c.args.s.now in
     let next = at_stays s c.loop-i.i (omega arith) (c.stays.ensures c.if-stays.true) in
     written_next s c.args.from c.args.room.now c.loop-i.room c.loop-i.i c.loop-i.n c.requires.1 c.loop-i.invariant
     (get_or s c.loop-i.i 0 ∷ []) (c.loop-i.i + 1) (omega arith) next
@@ -59,7 +59,7 @@ room_for :
     → c.loop-i.n + size_of c.piece_at-p.result
     ≤ length c.loop-i.room
 room_for c =
-        let args = c.args in
+    let args = c.args in
     let size = stands_size args.s.now c.loop-i.i c.piece_at-p.result c.piece_at-p.ensures in
     let inv = c.loop-i.invariant in
     omega (arith, size, ap length inv.left, length-drop c.loop-i.n (to_plain (drop args.from args.s.now)), inv.kept, inv.some)
@@ -80,7 +80,7 @@ loop-i-smaller c =
 
 pub loop-i-preserved : goal.loop-i-preserved
 loop-i-preserved c =
-                    let s = c.args.s.now in
+    let s = c.args.s.now in
     let p = c.piece_at-p.result in
     let stands = c.piece_at-p.ensures in
     rw (c.taken-i.ensures, c.size-n.ensures, ← (put_size s c.loop-i.i p stands.inside), c.put.ensures)
@@ -93,7 +93,7 @@ loop-i-preserved c =
 pub returns : goal.returns
 unfolding placed
 returns c =
-        let args = c.args in
+    let args = c.args in
     let whole = to_plain (drop args.from args.s.now) in
     let inv = c.loop-i.invariant in
     let end = at_end args.s.now c.loop-i.i c.loop-i-test.false in

@@ -3,7 +3,7 @@ use Rattle.rows.proofs.cue_row.Goals as goal
 
 pub returns : goal.returns
 returns c =
-        row_is
+    row_is
     c.args.entry
     c.args.lines
     c.direction.ensures

@@ -1,4 +1,4 @@
-use Prim.Native.Nat.{◌+◌, ◌<◌, ◌-◌}
+use Prim.Native.Nat.{◌+◌, ◌<◌}
 use mathlib.Core.Path.{◌≡◌, refl, sym, ap, ◌∙◌}
 use native.Mathlib.Numerals.{add-one}
 use native.Mathlib.Omega.{arith}
@@ -11,7 +11,7 @@ loop-i-init c = (omega arith, refl, paste-zero c.args.room.now c.args.to (drop c
 
 pub loop-i-preserved : goal.loop-i-preserved
 loop-i-preserved c =
-        let args = c.args in
+    let args = c.args in
     let i = c.loop-i.i in
     let from = drop args.at args.s.now in
     let k : i < length from = omega (arith, length-drop args.at args.s.now) in (
@@ -26,7 +26,7 @@ loop-i-preserved c =
 
 pub returns : goal.returns
 returns c =
-        let args = c.args in
+    let args = c.args in
     let from = drop args.at args.s.now in
     let e : c.loop-i.i ≡ args.n = omega arith in
     let l : length (take args.n from) ≡ args.n = length-take-le args.n from (omega (arith, length-drop args.at args.s.now)) in

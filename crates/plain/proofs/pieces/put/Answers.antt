@@ -25,7 +25,7 @@ bounds-room-to-in-Line c = omega (arith, ap size_of c.in-Line.is)
 
 pub returns-in-Keep : goal.returns-in-Keep
 returns-in-Keep c =
-        let args = c.args in
+    let args = c.args in
     c.copy.ensures
     ∙ ap (λ q. sets args.room.now args.to (put_by q (drop args.at args.s.now))) (sym c.in-Keep.is)
 

@@ -21,6 +21,6 @@ overflow_cast-result c = omega (arith, leading_le 8 (255 - c.args.b))
 
 pub returns : goal.returns
 returns c =
-        let b = c.args.b in
+    let b = c.args.b in
     rw (c.low.ensures, c.high.ensures)
     (lead_whole b (omega arith) c.if-ones-eq0.false c.if-b-lt194.false c.if-b-gt244.false)

@@ -14,21 +14,21 @@ use Rattle.plain.proofs.sequences.run_at.Goals.{After-holds-3, Else-not-holds, E
 
 pub returns-then-first-eq0 : goal.returns-then-first-eq0
 returns-then-first-eq0 c =
-        let args = c.args in
+    let args = c.args in
     let lead = c.lead_of-first.result in
     let row = c.lead_of-first.ensures.1 in
     run_none args.s.now args.at (omega arith) lead.low lead.high lead.len row c.if-first-eq0.true
 
 pub returns-then-first-eq1 : goal.returns-then-first-eq1
 returns-then-first-eq1 c =
-        let args = c.args in
+    let args = c.args in
     let lead = c.lead_of-first.result in
     let row = c.lead_of-first.ensures.1 in
     run-one args.s.now args.at (omega arith) lead.low lead.high lead.len row c.if-first-eq1.true
 
 pub returns-then-not-holds : goal.returns-then-not-holds
 returns-then-not-holds c =
-        let args = c.args in
+    let args = c.args in
     let lead = c.lead_of-first.result in
     let row = c.lead_of-first.ensures.1 in
     run-first args.s.now args.at (omega arith) lead.low lead.high lead.len row (omega arith)
@@ -37,20 +37,20 @@ returns-then-not-holds c =
 -- the second byte can follow
 second :
     (c : Else-not-holds)
-    →     let args = c.args in
+    → let args = c.args in
     starts_in (c.lead_of-first.result.low to c.lead_of-first.result.high) (drop (args.at + 1) args.s.now) ≡ true
 second c = sym c.holds.ensures ∙ not-false c.holds.result c.if-not-holds.false-raw
 
 pub returns-then-first-eq2 : goal.returns-then-first-eq2
 returns-then-first-eq2 c =
-            let args = c.args in
+    let args = c.args in
     let lead = c.lead_of-first.result in
     let row = c.lead_of-first.ensures.1 in
     run_two args.s.now args.at (omega arith) lead.low lead.high (second (goal.at.returns-then-first-eq2 c).Else-not-holds) lead.len row c.if-first-eq2.true
 
 pub returns-then-not-holds-2 : goal.returns-then-not-holds-2
 returns-then-not-holds-2 c =
-            let args = c.args in
+    let args = c.args in
     let lead = c.lead_of-first.result in
     let row = c.lead_of-first.ensures.1 in
     run-second args.s.now args.at (omega arith) lead.low lead.high (second (goal.at.returns-then-not-holds-2 c).Else-not-holds) lead.len row (omega arith)
@@ -65,7 +65,7 @@ third c = sym c.holds-2.ensures ∙ not-false c.holds-2.result c.if-not-holds-2.
 
 pub returns-then-first-eq3 : goal.returns-then-first-eq3
 returns-then-first-eq3 c =
-                let args = c.args in
+    let args = c.args in
     let lead = c.lead_of-first.result in
     let row = c.lead_of-first.ensures.1 in
     run_three args.s.now args.at (omega arith) lead.low lead.high (second (goal.at.returns-then-first-eq3 c).Else-not-holds) (third (goal.at.returns-then-first-eq3 c).Else-not-holds-2) lead.len row c.if-first-eq3.true
@@ -80,7 +80,7 @@ ending :
     → let args = c.args in
     cond t (Keep 4) (Replace 3) ≡ run_of (drop args.at args.s.now)
 ending c from_second from_third t e =
-                let args = c.args in
+    let args = c.args in
     let lead = c.lead_of-first.result in
     let row = c.lead_of-first.ensures.1 in
     run_four args.s.now args.at (omega arith) lead.low lead.high from_second from_third lead.len row (omega arith) t

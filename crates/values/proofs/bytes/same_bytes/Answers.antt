@@ -1,4 +1,3 @@
-use Prim.Native.Nat.{◌-◌}
 use mathlib.Core.Path.{refl, sym, ◌∙◌}
 use native.Mathlib.Omega.{arith}
 use Rattle.laws.proofs.Runs.{same_length, same_next, same_differs, same_end}
@@ -12,13 +11,13 @@ loop-i-init c = (omega arith, c.if-a-b.false, refl)
 
 pub returns-then-a-i : goal.returns-then-a-i
 returns-then-a-i c =
-        let args = c.args in
+    let args = c.args in
     let inv = c.loop-i.invariant in
     sym (same_differs args.a.now args.b.now c.loop-i.i (omega arith) (omega arith) c.if-a-i.true) ∙ inv.2
 
 pub loop-i-preserved : goal.loop-i-preserved
 loop-i-preserved c =
-        let args = c.args in
+    let args = c.args in
     let inv = c.loop-i.invariant in (
       omega arith,
       inv.1,
@@ -27,5 +26,5 @@ loop-i-preserved c =
 
 pub returns : goal.returns
 returns c =
-        let args = c.args in
+    let args = c.args in
     sym (same_end args.a.now args.b.now c.loop-i.i (omega arith) (omega arith)) ∙ c.loop-i.invariant.2

@@ -1,4 +1,4 @@
-use Prim.Native.Nat.{◌+◌, ◌-◌}
+use Prim.Native.Nat.{◌+◌}
 use mathlib.Core.Path.{◌≡◌, sym}
 use mathlib.Core.Bool.{cond}
 use native.Mathlib.Omega.{arith}
@@ -39,7 +39,7 @@ here :
     index_in (parts_from lf args.table.now c.loop-at.at) args.name.now
     ≡ cond c.same_bytes.result 0 (index_in (parts_from lf args.table.now (c.past-end.result + 1)) args.name.now + 1)
 here c from_line_at =
-            let args = c.args in
+    let args = c.args in
     index-here args.table.now args.name.now c.loop-at.at c.past-end.result c.same_bytes.result
     from_line_at (sym c.same_bytes.ensures)
 

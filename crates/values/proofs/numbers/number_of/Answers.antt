@@ -12,7 +12,7 @@ loop-i-init c = (omega arith, omega arith, refl)
 
 pub loop-i-preserved : goal.loop-i-preserved
 loop-i-preserved c =
-        let ds = c.args.ds.now in
+    let ds = c.args.ds.now in
     let i = c.loop-i.i in
     let next = c.loop-i.v * 10 + c.digit_at.result in
     let held : c.if-v-gt-CAP.v ≡ min next cap = elim c.if-v-gt-CAP.branch [ then-v-gt-CAP w ↦ omega arith | else-v-gt-CAP w ↦ omega arith ] in
@@ -26,6 +26,6 @@ loop-i-preserved c =
 
 pub returns : goal.returns
 returns c =
-        let ds = c.args.ds.now in
+    let ds = c.args.ds.now in
     let all = number-end c.loop-i.v ds c.loop-i.i (omega arith) in
     omega (arith, all, c.loop-i.invariant.2, c.loop-i.invariant.1)

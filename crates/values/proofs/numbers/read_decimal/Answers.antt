@@ -21,16 +21,16 @@ ran c = run-start digit c.args.s.now c.past-end.result c.past-end.ensures
 
 pub returns-then-end-eq0 : goal.returns-then-end-eq0
 returns-then-end-eq0 c =
-        sym (ap decimal_is (decimal-none c.args.s.now c.past-end.result (ran (goal.at.returns-then-end-eq0 c).After-past-end) c.if-end-eq0.true))
+    sym (ap decimal_is (decimal-none c.args.s.now c.past-end.result (ran (goal.at.returns-then-end-eq0 c).After-past-end) c.if-end-eq0.true))
 
 pub slice_bounds-number_of-end : goal.slice_bounds-number_of-end
 slice_bounds-number_of-end c =
-        sym (length-take-le c.past-end.result c.args.s.now (ran (goal.at.slice_bounds-number_of-end c).After-past-end).inside)
+    sym (length-take-le c.past-end.result c.args.s.now (ran (goal.at.slice_bounds-number_of-end c).After-past-end).inside)
 
 pub returns-then-end-s : goal.returns-then-end-s
 unfolding number_from all
 returns-then-end-s c =
-            let s = c.args.s.now in
+    let s = c.args.s.now in
     rw (c.number_of-whole.ensures, decimal-whole s c.past-end.result (ran (goal.at.returns-then-end-s c).After-past-end) (omega arith) c.if-end-s.true) refl
 
 -- there are digits
@@ -47,7 +47,7 @@ bounds-s-end c = omega (arith, (ran (goal.at.bounds-s-end c).After-past-end).ins
 
 pub returns-then-s-end-ne46 : goal.returns-then-s-end-ne46
 returns-then-s-end-ne46 c =
-            let s = c.args.s.now in
+    let s = c.args.s.now in
     sym (ap decimal_is (decimal_no_stop s c.past-end.result (ran (goal.at.returns-then-s-end-ne46 c).After-past-end) (omega arith) (beyond (goal.at.returns-then-s-end-ne46 c).Else-end-s (ran (goal.at.returns-then-s-end-ne46 c).After-past-end)) c.if-s-end-ne46.true))
 
 pub overflow_add-from : goal.overflow_add-from
@@ -55,7 +55,7 @@ overflow_add-from c = omega (arith, (ran (goal.at.overflow_add-from c).After-pas
 
 pub returns-then-s-from : goal.returns-then-s-from
 returns-then-s-from c =
-        let s = c.args.s.now in
+    let s = c.args.s.now in
     sym (ap decimal_is (decimal_no_fraction s c.past-end.result (ran (goal.at.returns-then-s-from c).After-past-end) (omega arith) (beyond (goal.at.returns-then-s-from c).Else-end-s (ran (goal.at.returns-then-s-from c).After-past-end)) c.if-s-from.true))
 
 -- bytes stand after the full stop
@@ -65,7 +65,7 @@ fraction c from_beyond = omega (arith, from_beyond)
 
 pub returns-then-past-s : goal.returns-then-past-s
 returns-then-past-s c =
-            let s = c.args.s.now in
+    let s = c.args.s.now in
     let end = c.past-end.result in
     let l = beyond (goal.at.returns-then-past-s c).Else-end-s (ran (goal.at.returns-then-past-s c).After-past-end) in
     let k = fraction (goal.at.returns-then-past-s c).Else-s-from (beyond (goal.at.returns-then-past-s c).Else-end-s (ran (goal.at.returns-then-past-s c).After-past-end)) in
@@ -80,7 +80,7 @@ slice_bounds-rest-start c = omega (arith, (ran (goal.at.slice_bounds-rest-start 
 
 pub returns : goal.returns
 returns c =
-                let s = c.args.s.now in
+    let s = c.args.s.now in
     let end = c.past-end.result in
     let rest = drop (end + 1) s in
     let l = beyond (goal.at.returns c).Else-end-s (ran (goal.at.returns c).After-past-end) in

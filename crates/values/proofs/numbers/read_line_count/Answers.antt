@@ -21,14 +21,14 @@ returns-then-s-eq0 c =
 
 pub returns-then-past-s : goal.returns-then-past-s
 returns-then-past-s c =
-        let s = c.args.s.now in
+    let s = c.args.s.now in
     let both = count-told (line_count s) LineCount.Bad (sym (ap line_count_is (count_other s (run-not-all digit s (omega (arith, c.past.ensures, c.if-past-s.true)))))) in
     record { is = both.0; answer = both.1 }
 
 -- all bytes are digits
 counted : (c : Else-past-s) → let s = c.args.s.now in line_count s ≡ some (number s)
 counted c =
-        let s = c.args.s.now in
+    let s = c.args.s.now in
     count-is s (omega arith) (all-run digit s (omega (arith, c.past.ensures, c.if-past-s.false, run_length digit s)))
 
 pub returns-then-n-gt999999 : goal.returns-then-n-gt999999

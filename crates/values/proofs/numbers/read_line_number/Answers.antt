@@ -20,7 +20,7 @@ returns-then-s-eq0 c =
 
 pub returns-then-s-eq45 : goal.returns-then-s-eq45
 returns-then-s-eq45 c =
-        let args = c.args in
+    let args = c.args in
     let s = args.s.now in
     let part : take (length s - 1) (drop 1 s) ≡ drop 1 s = take_all (length s - 1) (drop 1 s) (omega (arith, length-drop 1 s)) in
     let both = line_told (line_number s) c.line_of.result
@@ -32,7 +32,7 @@ returns-then-s-eq45 c =
 
 pub returns : goal.returns
 returns c =
-        let s = c.args.s.now in
+    let s = c.args.s.now in
     let both = line_told (line_number s) c.line_of-2.result
     (c.line_of-2.ensures
     ∙ ap (line_of false) c.read_decimal-2.ensures

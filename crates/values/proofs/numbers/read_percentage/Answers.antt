@@ -24,7 +24,7 @@ slice_bounds-read_decimal-end c =
 
 pub returns : goal.returns
 returns c =
-            let s = c.args.s.now in
+    let s = c.args.s.now in
     c.share_of.ensures
     ∙ ap percentage_of c.read_decimal.ensures
     ∙ share_is (decimal (take (length s - 1) s))

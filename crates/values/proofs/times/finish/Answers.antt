@@ -25,19 +25,19 @@ fourth c =
 
 pub returns-then-minutes-gt59 : goal.returns-then-minutes-gt59
 returns-then-minutes-gt59 c =
-        let args = c.args in
+    let args = c.args in
     let t = time args.hours args.minutes args.seconds in
     last_out args.s.now args.at t c.in-Good.value c.in-Good.next (fourth (goal.at.returns-then-minutes-gt59 c).In-Good) (minutes-out t c.if-minutes-gt59.true)
 
 pub returns-then-seconds-gt59 : goal.returns-then-seconds-gt59
 returns-then-seconds-gt59 c =
-        let args = c.args in
+    let args = c.args in
     let t = time args.hours args.minutes args.seconds in
     last_out args.s.now args.at t c.in-Good.value c.in-Good.next (fourth (goal.at.returns-then-seconds-gt59 c).In-Good) (seconds-out t c.if-minutes-gt59.false c.if-seconds-gt59.true)
 
 pub returns-then-hours-gt99999 : goal.returns-then-hours-gt99999
 returns-then-hours-gt99999 c =
-        let args = c.args in
+    let args = c.args in
     let t = time args.hours args.minutes args.seconds in
     last-over args.s.now args.at t c.in-Good.value c.in-Good.next (fourth (goal.at.returns-then-hours-gt99999 c).In-Good)
     (in_range_lem t c.if-minutes-gt59.false c.if-seconds-gt59.false) (over-is t c.if-hours-gt99999.true)
@@ -49,7 +49,7 @@ overflow_add-result-in-Good-2 c =
 
 pub returns-in-Bad : goal.returns-in-Bad
 returns-in-Bad c =
-        let args = c.args in
+    let args = c.args in
     let s = args.s.now in
     let t = time args.hours args.minutes args.seconds in
     let fault = c.in-Bad.fault in
@@ -59,7 +59,7 @@ returns-in-Bad c =
 
 pub returns-else-hours-gt99999 : goal.returns-else-hours-gt99999
 returns-else-hours-gt99999 c =
-        let args = c.args in
+    let args = c.args in
     let t = time args.hours args.minutes args.seconds in
     last_at args.s.now args.at t c.in-Good.value c.in-Good.next (fourth (goal.at.returns-else-hours-gt99999 c).In-Good)
     (in_range_lem t c.if-minutes-gt59.false c.if-seconds-gt59.false) (over-not t c.if-hours-gt99999.false)

@@ -27,7 +27,7 @@ ran c =
 
 pub returns-then-end-from : goal.returns-then-end-from
 returns-then-end-from c =
-        let args = c.args in
+    let args = c.args in
     let s = args.s.now in
     let run = ran (goal.at.returns-then-end-from c).After-past-end in
     rw (
@@ -40,7 +40,7 @@ slice_bounds-number_of-end c = (ran (goal.at.slice_bounds-number_of-end c).After
 
 pub returns : goal.returns
 returns c =
-        let args = c.args in
+    let args = c.args in
     let s = args.s.now in
     let run = ran (goal.at.returns c).After-past-end in
     let good = field_good s args.at args.c args.n c.past-end.result (omega arith) c.if-s-at.false run c.if-end-from.false in

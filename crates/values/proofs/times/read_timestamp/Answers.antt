@@ -20,12 +20,12 @@ use Rattle.values.proofs.times.read_timestamp.Goals.{After-has_hours, Else-end-a
 -- the first digits
 ran : (c : Else-end-at) → let args = c.args in RunAt digit args.s.now args.at c.past-end.result
 ran c =
-        let args = c.args in
+    let args = c.args in
     first_at args.s.now args.at c.past-end.result c.past-end.ensures c.if-end-at.false
 
 pub returns-then-end-at : goal.returns-then-end-at
 returns-then-end-at c =
-        let args = c.args in
+    let args = c.args in
     let s = args.s.now in
     let place : place_of (length s) (drop args.at s) ≡ min args.at (length s) = omega (arith, length-drop args.at s) in
     rw (stamp_no_digit s args.at (omega (arith, c.past-end.ensures, c.if-end-at.true)), c.least.ensures, place)
@@ -43,10 +43,10 @@ some c = omega (arith, (ran c).from, c.if-end-at.false)
 -- the second value
 second :
     (c : In-Good)
-    →         (from_ran : let args = c.args in RunAt digit args.s.now args.at c.past-end.result)
+    → (from_ran : let args = c.args in RunAt digit args.s.now args.at c.past-end.result)
     → FieldRead c.args.s.now c.past-end.result colon 2 c.in-Good.value c.in-Good.next
 second c from_ran =
-            field_read c.args.s.now c.past-end.result colon 2 from_ran.inside c.in-Good.value c.in-Good.next
+    field_read c.args.s.now c.past-end.result colon 2 from_ran.inside c.in-Good.value c.in-Good.next
     (sym c.in-Good.is ∙ c.read_field.ensures)
 
 pub has_hours-requires : goal.has_hours-requires
@@ -58,14 +58,14 @@ read_field-requires-then-has_hours c = (second (goal.at.read_field-requires-then
 -- what `has_hours` found, of the digits themselves
 hours :
     (c : After-has_hours)
-    →             (from_ran : let args = c.args in RunAt digit args.s.now args.at c.past-end.result)
+    → (from_ran : let args = c.args in RunAt digit args.s.now args.at c.past-end.result)
     → let args = c.args in
     c.has_hours.result
     ≡ hours_first (first_digits args.s.now args.at c.past-end.result from_ran)
     || starts_with (colon ∷ []) (drop c.in-Good.next args.s.now)
 unfolding hours_first
 hours c from_ran =
-                    let args = c.args in
+    let args = c.args in
     let ds = first_digits args.s.now args.at c.past-end.result from_ran in
     c.has_hours.ensures
     ∙ rw (c.number_of-first.ensures, ltb-held 59 (number_from 0 ds) (omega arith), first-length args.s.now args.at c.past-end.result from_ran)
@@ -73,10 +73,10 @@ hours c from_ran =
 -- the third value
 third :
     (c : In-Good-read_field)
-    →             (from_second :         FieldRead c.args.s.now c.past-end.result colon 2 c.in-Good.value c.in-Good.next)
+    → (from_second : FieldRead c.args.s.now c.past-end.result colon 2 c.in-Good.value c.in-Good.next)
     → FieldRead c.args.s.now c.in-Good.next colon 2 c.in-Good-read_field.seconds c.in-Good-read_field.last
 third c from_second =
-                field_read c.args.s.now c.in-Good.next colon 2 from_second.inside c.in-Good-read_field.seconds c.in-Good-read_field.last
+    field_read c.args.s.now c.in-Good.next colon 2 from_second.inside c.in-Good-read_field.seconds c.in-Good-read_field.last
     (sym c.in-Good-read_field.is ∙ c.read_field-then-has_hours.ensures)
 
 pub finish-requires : goal.finish-requires
@@ -84,7 +84,7 @@ finish-requires c = (third (goal.at.finish-requires c).In-Good-read_field (secon
 
 pub returns-in-Bad-read_field : goal.returns-in-Bad-read_field
 returns-in-Bad-read_field c =
-                        let args = c.args in
+    let args = c.args in
     let s = args.s.now in
     let next = c.in-Good.next in
     let fault = c.in-Bad-read_field.fault in
@@ -96,7 +96,7 @@ returns-in-Bad-read_field c =
 
 pub returns-in-Good-read_field : goal.returns-in-Good-read_field
 returns-in-Good-read_field c =
-                        let args = c.args in
+    let args = c.args in
     let s = args.s.now in
     let ds = first_digits s args.at c.past-end.result (ran (goal.at.returns-in-Good-read_field c).Else-end-at) in
     let two = second (goal.at.returns-in-Good-read_field c).In-Good (ran (goal.at.returns-in-Good-read_field c).Else-end-at) in
@@ -115,7 +115,7 @@ finish-requires-in-Good c = (second (goal.at.finish-requires-in-Good c).In-Good 
 
 pub returns-in-Bad : goal.returns-in-Bad
 returns-in-Bad c =
-                let args = c.args in
+    let args = c.args in
     let s = args.s.now in
     let end = c.past-end.result in
     let fault = c.in-Bad.fault in
@@ -126,7 +126,7 @@ returns-in-Bad c =
 
 pub returns-else-has_hours : goal.returns-else-has_hours
 returns-else-has_hours c =
-                    let args = c.args in
+    let args = c.args in
     let s = args.s.now in
     let ds = first_digits s args.at c.past-end.result (ran (goal.at.returns-else-has_hours c).Else-end-at) in
     let two = second (goal.at.returns-else-has_hours c).In-Good (ran (goal.at.returns-else-has_hours c).Else-end-at) in

@@ -19,21 +19,21 @@ colon-at c =
 
 pub returns-then-colon-eq0 : goal.returns-then-colon-eq0
 returns-then-colon-eq0 c =
-        let args = c.args in
+    let args = c.args in
     no_name args.s.now args.from c.past-colon.result (colon-at (goal.at.returns-then-colon-eq0 c).After-past-colon) c.if-colon-eq0.true
 
 pub overflow_add-colon : goal.overflow_add-colon
 overflow_add-colon c =
-        let args = c.args in
+    let args = c.args in
     omega (arith, colon-at (goal.at.overflow_add-colon c).After-past-colon, before-length colon (drop args.from args.s.now), length-drop args.from args.s.now)
 
 pub returns-then-token-colon : goal.returns-then-token-colon
 returns-then-token-colon c =
-        let args = c.args in
+    let args = c.args in
     no_value args.s.now args.from c.past-colon.result (colon-at (goal.at.returns-then-token-colon c).After-past-colon) (rw (rest-is args.s.now args.from) at c.if-token-colon.true)
 
 pub returns : goal.returns
 returns c =
-        let args = c.args in
+    let args = c.args in
     let long : c.past-colon.result + 1 < length (drop args.from args.s.now) = rw (rest-is args.s.now args.from) at c.if-token-colon.false in
     named_at_lem args.s.now args.from c.past-colon.result (colon-at (goal.at.returns c).After-past-colon) (omega arith) long

@@ -15,12 +15,12 @@ whites c = let args = c.args in run_at white args.s.now args.i c.past-from.resul
 
 pub returns-then-from-s : goal.returns-then-from-s
 returns-then-from-s c =
-        let args = c.args in
+    let args = c.args in
     tokens-end args.s.now args.i c.past-from.result (whites (goal.at.returns-then-from-s c).After-past-from) (omega arith)
 
 pub returns : goal.returns
 returns c =
-        let args = c.args in
+    let args = c.args in
     let s = args.s.now in
     let from = c.past-from.result in
     let to = c.past-to.result in
