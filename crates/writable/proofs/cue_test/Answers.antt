@@ -1,6 +1,6 @@
 use Prim.Native.Nat.{ℕ}
 use mathlib.Core.Path.{◌≡◌, sym, ap, ◌∙◌}
-use mathlib.Core.Bool.{Bool}
+use mathlib.Core.Bool.{Bool, not}
 use mathlib.Core.List.{List, [], ◌∷◌}
 use native.Mathlib.Omega.{arith}
 use Rattle.format.specs.Rows.{cue_entry}
@@ -54,7 +54,7 @@ unfolding first_failing
 returns-then-not-region_fits c =
     let at = goal.at.returns-then-not-region_fits c in
     record {
-      answer = rw (← (after-fields at.Else-fields-ne0), failed (region_is_lem at.After-region_fits) c.if-not-region_fits.true-raw);
+      answer = rw (← (after-fields at.Else-fields-ne0), failed (region_is_lem at.After-region_fits) (ap not c.if-not-region_fits.true));
       known = c.region_fits.ensures.known;
     }
 
@@ -63,6 +63,6 @@ unfolding first_failing
 returns c =
     let at = goal.at.returns c in
     record {
-      answer = rw (← (after-fields at.Else-fields-ne0), passed (region_is_lem at.After-region_fits) c.if-not-region_fits.false-raw);
+      answer = rw (← (after-fields at.Else-fields-ne0), passed (region_is_lem at.After-region_fits) (ap not c.if-not-region_fits.false));
       known = c.region_fits.ensures.known;
     }
