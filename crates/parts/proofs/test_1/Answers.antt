@@ -4,7 +4,6 @@ use Rattle.format.specs.Writable.{part_plain, cue_test1}
 use Rattle.parts.proofs.test_1.Goals as goal
 use Rattle.parts.proofs.test_1.Goals.{After-part_plain, After-part_plain-2}
 
--- `parts::test_1` meets its contract.
 -- what the test of the identifier says, and that of the text
 id-plain :
     (c : After-part_plain) → let a = c.args in part_plain a.text.now (cue_entry a.row).id.from (cue_entry a.row).id.to ≡ c.part_plain.result

@@ -5,7 +5,6 @@ use Rattle.setting_forms.specs.Settings.{named_region}
 use Rattle.setting_forms.proofs.SettingLaws.{puts_setting}
 use Rattle.setting_forms.proofs.region.Goals as goal
 
--- `setting_forms::region` meets its contract.
 pub returns-then-not-asks : goal.returns-then-not-asks
 unfolding after_spaces named_region
 returns-then-not-asks c = rw (c.if-not-asks.true) (puts_none _ _)

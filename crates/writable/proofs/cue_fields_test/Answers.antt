@@ -12,7 +12,6 @@ use Rattle.writable.proofs.FaultLaws.{failed, passed, fails_front, fails-after}
 use Rattle.writable.proofs.cue_fields_test.Goals as goal
 use Rattle.writable.proofs.cue_fields_test.Goals.{After-cue_parts_test-parts}
 
--- `writable::cue_fields_test` meets its contract.
 -- the tests 2 and 3, and those after them
 module _ (s row : List ℕ) where
   abbrev two : List Bool

@@ -6,7 +6,6 @@ use Rattle.writable.proofs.FaultLaws.{failed, passed}
 use Rattle.writable.proofs.cue_numbers_test.Goals as goal
 use Rattle.writable.proofs.cue_numbers_test.Goals.{After-times_fit}
 
--- `writable::cue_numbers_test` meets its contract.
 times_are :
     (c : After-times_fit)
     → let a = c.args in c.times_fit.result ≡ cue_test4 (cue_entry a.row).start (cue_entry a.row).end

@@ -6,7 +6,6 @@ use Rattle.writable.proofs.FaultLaws.{failed, passed}
 use Rattle.writable.proofs.cue_parts_test.Goals as goal
 use Rattle.writable.proofs.cue_parts_test.Goals.{After-is_identifier, After-text_fits}
 
--- `writable::cue_parts_test` meets its contract.
 -- tests 2 and 3, as the code asks them of the parts that it cuts
 test-2-is :
     (c : After-is_identifier)

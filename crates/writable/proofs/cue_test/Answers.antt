@@ -10,7 +10,6 @@ use Rattle.writable.proofs.FaultLaws.{failed, passed, fails_front, fails-after}
 use Rattle.writable.proofs.cue_test.Goals as goal
 use Rattle.writable.proofs.cue_test.Goals.{After-region_fits, Else-fields-ne0}
 
--- `writable::cue_test` meets its contract.
 module _ (s : List ℕ) (regions : List (List ℕ)) (row : List ℕ) where
   abbrev fields : List Bool
   fields = cue_test1 s row ∷ cue_tests (cue_of_row s row)

@@ -3,7 +3,6 @@ use mathlib.Core.Bool.{not}
 use Rattle.writable.proofs.FaultLaws.{failed, passed}
 use Rattle.writable.proofs.line_number_fits.Goals as goal
 
--- `writable::line_number_fits` meets its contract.
 pub returns-then-snap : goal.returns-then-snap
 returns-then-snap c = rw c.if-snap.true
 

@@ -7,7 +7,6 @@ use Rattle.writable.proofs.FaultLaws.{failed, passed}
 use Rattle.writable.proofs.numbers_fit.Goals as goal
 use Rattle.writable.proofs.numbers_fit.Goals.{After-line_fits, After-position_fits}
 
--- `writable::numbers_fit` meets its contract.
 line_is : (c : After-line_fits) → c.line_fits.result ≡ line_fits (cue_entry c.args.row).settings.line
 line_is c = c.line_fits.ensures ∙ ap line_fits c.line.ensures
 

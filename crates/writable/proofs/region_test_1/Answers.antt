@@ -6,7 +6,6 @@ use Rattle.writable.proofs.FaultLaws.{failed, passed}
 use Rattle.writable.proofs.region_test_1.Goals as goal
 use Rattle.writable.proofs.region_test_1.Goals.{After-part_plain}
 
--- `writable::region_test_1` meets its contract.
 plain-is :
     (c : After-part_plain)
     → let a = c.args in c.part_plain.result ≡ part_plain a.text.now (region_entry a.row).id.from (region_entry a.row).id.to

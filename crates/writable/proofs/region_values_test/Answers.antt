@@ -8,7 +8,6 @@ use Rattle.writable.proofs.FaultLaws.{failed, passed}
 use Rattle.writable.proofs.region_values_test.Goals as goal
 use Rattle.writable.proofs.region_values_test.Goals.{After-is_region_identifier, Else-not-percentages_fit}
 
--- `writable::region_values_test` meets its contract.
 -- test 2, as the code asks it
 second_is :
     (c : After-is_region_identifier)

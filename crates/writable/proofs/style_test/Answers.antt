@@ -8,7 +8,6 @@ use Rattle.writable.proofs.FaultLaws.{failed, passed}
 use Rattle.writable.proofs.style_test.Goals as goal
 use Rattle.writable.proofs.style_test.Goals.{After-is_unbroken, After-part_plain}
 
--- `writable::style_test` meets its contract.
 -- the two tests, as the code asks them
 plain-is :
     (c : After-part_plain)
