@@ -6,7 +6,6 @@ use Rattle.format.specs.Lines.{after_line_ends}
 use Rattle.format.specs.Written.{written_id}
 use Rattle.forms.proofs.identifier.Goals as goal
 
--- `forms::identifier` meets its contract.
 pub returns-then-id-eq0 : goal.returns-then-id-eq0
 unfolding written_id after_line_ends
 returns-then-id-eq0 c = let args = c.args in rw (empty_is args.id.now c.if-id-eq0.true) (puts_none args.at args.out.now)

@@ -3,7 +3,6 @@ use Rattle.output.proofs.PutLaws.{byte_then, puts_none}
 use Rattle.values.proofs.NumberLaws.{empty_is, is_empty-not}
 use Rattle.forms.proofs.line_after.Goals as goal
 
--- `forms::line_after` meets its contract.
 pub returns-then-s-eq0 : goal.returns-then-s-eq0
 returns-then-s-eq0 c = let args = c.args in rw (empty_is args.s.now c.if-s-eq0.true) (puts_none args.at args.out.now)
 

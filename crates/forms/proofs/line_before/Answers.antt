@@ -3,7 +3,6 @@ use Rattle.output.proofs.PutLaws.{◌then◌, puts_none}
 use Rattle.values.proofs.NumberLaws.{empty_is, is_empty-not}
 use Rattle.forms.proofs.line_before.Goals as goal
 
--- `forms::line_before` meets its contract.
 pub returns-then-s-eq0 : goal.returns-then-s-eq0
 returns-then-s-eq0 c = let args = c.args in rw (empty_is args.s.now c.if-s-eq0.true) (puts_none args.at args.out.now)
 

@@ -14,6 +14,3 @@ returns c =
     then (c.bytes-anchor.ensures then c.point-after_anchor.ensures)
     then (c.bytes-viewport.ensures then c.point-after_viewport.ensures)
     then c.scroll.ensures)
-
--- TODO no goal: same_length : tie.Need-same-length
--- same_length c = puts_length (returns c)

@@ -4,7 +4,6 @@ use lib.ListN.{length}
 use Rattle.format.specs.Parts.{part_answer_is, asking}
 use Rattle.parts.proofs.ask.Goals as goal
 
--- `parts::ask` meets its contract.
 pub returns-then-cues-number : goal.returns-then-cues-number
 unfolding part_answer_is asking
 returns-then-cues-number c = let a = c.args in rw (le-ltb a.number (length a.cues.now) c.if-cues-number.true)

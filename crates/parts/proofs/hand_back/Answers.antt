@@ -3,7 +3,7 @@ use mathlib.Core.Path.{◌≡◌, sym, ◌∙◌}
 use mathlib.Core.Bool.{true}
 use mathlib.Core.List.{[]}
 use lib.ListN.{length, get_or}
-use borrow.Author.Tests.{lt-ltb, not-true, not-false}
+use borrow.Author.Tests.{lt-ltb}
 use Rattle.format.specs.Writable.{cue_test1}
 use Rattle.format.specs.Texts.{bytes_at}
 use Rattle.parts.proofs.PartLaws.{place_inside, none_such, not_writable, handed}
@@ -18,11 +18,11 @@ returns-then-not-test_1 c =
     let a = c.args in
     sym
     (not_writable a.text.now a.cues.now a.number a.wanted (lt-ltb a.number (length a.cues.now) c.if-cues-number.false)
-    (sym c.test_1.ensures ∙ not-true c.test_1.result c.if-not-test_1.true-raw))
+    (sym c.test_1.ensures ∙ c.if-not-test_1.true))
 
 -- the cue passes, and the place is inside the text
 passes : (c : Else-not-test_1) → let a = c.args in cue_test1 a.text.now (get_or a.cues.now a.number []) ≡ true
-passes c = sym c.test_1.ensures ∙ not-false c.test_1.result c.if-not-test_1.false-raw
+passes c = sym c.test_1.ensures ∙ c.if-not-test_1.false
 
 inside :
     (c : After-place_of-place) (from_passes : let a = c.args in cue_test1 a.text.now (get_or a.cues.now a.number []) ≡ true)

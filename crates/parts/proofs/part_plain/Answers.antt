@@ -4,7 +4,6 @@ use Rattle.format.specs.Writable.{part_plain}
 use Rattle.format.specs.Texts.{bytes_at}
 use Rattle.parts.proofs.part_plain.Goals as goal
 
--- `parts::part_plain` meets its contract.
 pub returns-then-to-from : goal.returns-then-to-from
 unfolding part_plain bytes_at
 returns-then-to-from c = let a = c.args in rw (lt-leb a.from a.to c.if-to-from.true)

@@ -1,11 +1,9 @@
 use mathlib.Core.Path.{◌≡◌, sym, ap, ◌∙◌}
-use borrow.Author.Tests.{not-true, not-false}
 use Rattle.format.specs.Rows.{cue_entry}
 use Rattle.format.specs.Writable.{part_plain, cue_test1}
 use Rattle.parts.proofs.test_1.Goals as goal
 use Rattle.parts.proofs.test_1.Goals.{After-part_plain, After-part_plain-2}
 
--- `parts::test_1` meets its contract.
 -- what the test of the identifier says, and that of the text
 id-plain :
     (c : After-part_plain) → let a = c.args in part_plain a.text.now (cue_entry a.row).id.from (cue_entry a.row).id.to ≡ c.part_plain.result
@@ -22,21 +20,21 @@ text-plain c =
 
 pub returns-then-not-part_plain : goal.returns-then-not-part_plain
 unfolding cue_test1
-returns-then-not-part_plain c = rw (id-plain (goal.at.returns-then-not-part_plain c).After-part_plain ∙ not-true c.part_plain.result c.if-not-part_plain.true-raw)
+returns-then-not-part_plain c = rw (id-plain (goal.at.returns-then-not-part_plain c).After-part_plain ∙ c.if-not-part_plain.true)
 
 pub returns-then-not-part_plain-2 : goal.returns-then-not-part_plain-2
 unfolding cue_test1
 returns-then-not-part_plain-2 c =
     rw (
-      id-plain (goal.at.returns-then-not-part_plain-2 c).After-part_plain ∙ not-false c.part_plain.result c.if-not-part_plain.false-raw,
-      text-plain (goal.at.returns-then-not-part_plain-2 c).After-part_plain-2 ∙ not-true c.part_plain-2.result c.if-not-part_plain-2.true-raw,
+      id-plain (goal.at.returns-then-not-part_plain-2 c).After-part_plain ∙ c.if-not-part_plain.false,
+      text-plain (goal.at.returns-then-not-part_plain-2 c).After-part_plain-2 ∙ c.if-not-part_plain-2.true,
     )
 
 pub returns : goal.returns
 unfolding cue_test1
 returns c =
     rw (
-      id-plain (goal.at.returns c).After-part_plain ∙ not-false c.part_plain.result c.if-not-part_plain.false-raw,
-      text-plain (goal.at.returns c).After-part_plain-2 ∙ not-false c.part_plain-2.result c.if-not-part_plain-2.false-raw,
+      id-plain (goal.at.returns c).After-part_plain ∙ c.if-not-part_plain.false,
+      text-plain (goal.at.returns c).After-part_plain-2 ∙ c.if-not-part_plain-2.false,
       c.are_named.ensures,
     )

@@ -13,7 +13,6 @@ use Rattle.rewriting.proofs.RewriteLaws.{FileRead, file_read, rewriting-refused,
 use Rattle.rewriting.proofs.rewrite.Goals as goal
 use Rattle.rewriting.proofs.rewrite.Goals.{After-read_file, In-Lists}
 
--- `rewriting::rewrite` meets its contract.
 -- the file was read
 was_read :
     (c : In-Lists)

@@ -3,16 +3,14 @@ use Rattle.format.specs.Bytes.{ascii}
 use Rattle.output.proofs.PutLaws.{puts_none}
 use Rattle.setting_forms.specs.Settings.{named_region}
 use Rattle.setting_forms.proofs.SettingLaws.{puts_setting}
-use borrow.Author.Tests.{not-true, not-false}
 use Rattle.setting_forms.proofs.region.Goals as goal
 
--- `setting_forms::region` meets its contract.
 pub returns-then-not-asks : goal.returns-then-not-asks
 unfolding after_spaces named_region
-returns-then-not-asks c = rw (not-true c.args.asks c.if-not-asks.true-raw) (puts_none _ _)
+returns-then-not-asks c = rw (c.if-not-asks.true) (puts_none _ _)
 
 pub returns : goal.returns
 unfolding named_region
 returns c =
-    rw (not-false c.args.asks c.if-not-asks.false-raw)
+    rw (c.if-not-asks.false)
     (puts_setting (ascii "region") c.bytes-to.ensures c.bytes.ensures)

@@ -5,7 +5,6 @@ use Rattle.setting_forms.proofs.SettingLaws.{puts_setting}
 use borrow.Author.Tests.{ne_eqb, eq-eqb}
 use Rattle.setting_forms.proofs.size.Goals as goal
 
--- `setting_forms::size` meets its contract.
 pub returns-then-millionths-eq100000000 : goal.returns-then-millionths-eq100000000
 unfolding after_spaces written_size
 returns-then-millionths-eq100000000 c = rw (eq-eqb _ _ c.if-millionths-eq100000000.true) (puts_none _ _)

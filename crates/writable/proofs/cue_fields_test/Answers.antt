@@ -1,6 +1,6 @@
 use Prim.Native.Nat.{ℕ}
 use mathlib.Core.Path.{◌≡◌, sym, ap, ◌∙◌}
-use mathlib.Core.Bool.{Bool}
+use mathlib.Core.Bool.{Bool, not}
 use mathlib.Core.List.{List, [], ◌∷◌}
 use native.Mathlib.Omega.{arith}
 use Rattle.format.specs.Texts.{bytes_at}
@@ -12,7 +12,6 @@ use Rattle.writable.proofs.FaultLaws.{failed, passed, fails_front, fails-after}
 use Rattle.writable.proofs.cue_fields_test.Goals as goal
 use Rattle.writable.proofs.cue_fields_test.Goals.{After-cue_parts_test-parts}
 
--- `writable::cue_fields_test` meets its contract.
 -- the tests 2 and 3, and those after them
 module _ (s row : List ℕ) where
   abbrev two : List Bool
@@ -30,7 +29,7 @@ parts_are c = c.cue_parts_test-parts.ensures ∙ rw (c.id.ensures, c.text.ensure
 
 pub returns-then-not-test_1 : goal.returns-then-not-test_1
 unfolding first_failing
-returns-then-not-test_1 c = rw (failed c.test_1.ensures c.if-not-test_1.true-raw)
+returns-then-not-test_1 c = rw (failed c.test_1.ensures (ap not c.if-not-test_1.true))
 
 pub returns-then-parts-ne0 : goal.returns-then-parts-ne0
 unfolding first_failing cue_tests cue_of_entry
@@ -38,7 +37,7 @@ returns-then-parts-ne0 c =
     let s = c.args.text.now in
     let row = c.args.row in
     let parts = parts_are (goal.at.returns-then-parts-ne0 c).After-cue_parts_test-parts in
-    rw (passed c.test_1.ensures c.if-not-test_1.false-raw)
+    rw (passed c.test_1.ensures (ap not c.if-not-test_1.false))
     (parts ∙ fails_front 2 (two s row) (three s row) (λ z. c.if-parts-ne0.true (parts ∙ z)))
 
 pub returns : goal.returns
@@ -47,6 +46,6 @@ returns c =
     let s = c.args.text.now in
     let row = c.args.row in
     let parts = parts_are (goal.at.returns c).After-cue_parts_test-parts in
-    rw (passed c.test_1.ensures c.if-not-test_1.false-raw)
+    rw (passed c.test_1.ensures (ap not c.if-not-test_1.false))
     (c.cue_numbers_test.ensures
     ∙ ap test_number (sym (fails-after 2 (two s row) (three s row) (omega arith) (sym parts ∙ c.if-parts-ne0.false))))

@@ -1,6 +1,6 @@
 use Prim.Native.Nat.{ℕ}
 use mathlib.Core.Path.{◌≡◌, sym, ap, ◌∙◌}
-use mathlib.Core.Bool.{Bool}
+use mathlib.Core.Bool.{Bool, not}
 use mathlib.Core.List.{List, [], ◌∷◌}
 use native.Mathlib.Omega.{arith}
 use Rattle.format.specs.Rows.{cue_entry}
@@ -10,7 +10,6 @@ use Rattle.writable.proofs.FaultLaws.{failed, passed, fails_front, fails-after}
 use Rattle.writable.proofs.cue_test.Goals as goal
 use Rattle.writable.proofs.cue_test.Goals.{After-region_fits, Else-fields-ne0}
 
--- `writable::cue_test` meets its contract.
 module _ (s : List ℕ) (regions : List (List ℕ)) (row : List ℕ) where
   abbrev fields : List Bool
   fields = cue_test1 s row ∷ cue_tests (cue_of_row s row)
@@ -54,7 +53,7 @@ unfolding first_failing
 returns-then-not-region_fits c =
     let at = goal.at.returns-then-not-region_fits c in
     record {
-      answer = rw (← (after-fields at.Else-fields-ne0), failed (region_is_lem at.After-region_fits) c.if-not-region_fits.true-raw);
+      answer = rw (← (after-fields at.Else-fields-ne0), failed (region_is_lem at.After-region_fits) (ap not c.if-not-region_fits.true));
       known = c.region_fits.ensures.known;
     }
 
@@ -63,6 +62,6 @@ unfolding first_failing
 returns c =
     let at = goal.at.returns c in
     record {
-      answer = rw (← (after-fields at.Else-fields-ne0), passed (region_is_lem at.After-region_fits) c.if-not-region_fits.false-raw);
+      answer = rw (← (after-fields at.Else-fields-ne0), passed (region_is_lem at.After-region_fits) (ap not c.if-not-region_fits.false));
       known = c.region_fits.ensures.known;
     }

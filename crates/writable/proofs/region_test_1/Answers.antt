@@ -1,3 +1,4 @@
+use mathlib.Core.Bool.{not}
 use mathlib.Core.Path.{◌≡◌, ap, ◌∙◌}
 use Rattle.format.specs.Rows.{region_entry}
 use Rattle.format.specs.Writable.{part_plain, region_test1}
@@ -5,7 +6,6 @@ use Rattle.writable.proofs.FaultLaws.{failed, passed}
 use Rattle.writable.proofs.region_test_1.Goals as goal
 use Rattle.writable.proofs.region_test_1.Goals.{After-part_plain}
 
--- `writable::region_test_1` meets its contract.
 plain-is :
     (c : After-part_plain)
     → let a = c.args in c.part_plain.result ≡ part_plain a.text.now (region_entry a.row).id.from (region_entry a.row).id.to
@@ -15,8 +15,8 @@ plain-is c =
 
 pub returns-then-not-part_plain : goal.returns-then-not-part_plain
 unfolding region_test1
-returns-then-not-part_plain c = rw (failed (plain-is (goal.at.returns-then-not-part_plain c).After-part_plain) c.if-not-part_plain.true-raw)
+returns-then-not-part_plain c = rw (failed (plain-is (goal.at.returns-then-not-part_plain c).After-part_plain) (ap not c.if-not-part_plain.true))
 
 pub returns : goal.returns
 unfolding region_test1
-returns c = rw (passed (plain-is (goal.at.returns c).After-part_plain) c.if-not-part_plain.false-raw) c.are_named.ensures
+returns c = rw (passed (plain-is (goal.at.returns c).After-part_plain) (ap not c.if-not-part_plain.false)) c.are_named.ensures

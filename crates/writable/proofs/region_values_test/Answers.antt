@@ -1,4 +1,5 @@
-use mathlib.Core.Path.{◌≡◌}
+use mathlib.Core.Bool.{not}
+use mathlib.Core.Path.{◌≡◌, ap}
 use mathlib.Core.List.{[], ◌∷◌}
 use borrow.Author.Tests.{lt-leb, le-leb}
 use Rattle.format.specs.Contents.{region_of_entry}
@@ -7,7 +8,6 @@ use Rattle.writable.proofs.FaultLaws.{failed, passed}
 use Rattle.writable.proofs.region_values_test.Goals as goal
 use Rattle.writable.proofs.region_values_test.Goals.{After-is_region_identifier, Else-not-percentages_fit}
 
--- `writable::region_values_test` meets its contract.
 -- test 2, as the code asks it
 second_is :
     (c : After-is_region_identifier)
@@ -24,15 +24,15 @@ last-decides :
     first_failing 2 (region_tests (region_of_entry a.text.now a.region)) ≡ first_failing 4 (region_test4 a.region.settings.lines ∷ [])
 unfolding first_failing region_tests region_of_entry
 last-decides c from_second_is =
-    rw (passed from_second_is c.if-not-is_region_identifier.false-raw, passed c.percentages_fit.ensures c.if-not-percentages_fit.false-raw)
+    rw (passed from_second_is (ap not c.if-not-is_region_identifier.false), passed c.percentages_fit.ensures (ap not c.if-not-percentages_fit.false))
 
 pub returns-then-not-is_region_identifier : goal.returns-then-not-is_region_identifier
 unfolding first_failing region_tests
-returns-then-not-is_region_identifier c = rw (failed (second_is (goal.at.returns-then-not-is_region_identifier c).After-is_region_identifier) c.if-not-is_region_identifier.true-raw)
+returns-then-not-is_region_identifier c = rw (failed (second_is (goal.at.returns-then-not-is_region_identifier c).After-is_region_identifier) (ap not c.if-not-is_region_identifier.true))
 
 pub returns-then-not-percentages_fit : goal.returns-then-not-percentages_fit
 unfolding first_failing region_tests region_of_entry
-returns-then-not-percentages_fit c = rw (passed (second_is (goal.at.returns-then-not-percentages_fit c).After-is_region_identifier) c.if-not-is_region_identifier.false-raw, failed c.percentages_fit.ensures c.if-not-percentages_fit.true-raw)
+returns-then-not-percentages_fit c = rw (passed (second_is (goal.at.returns-then-not-percentages_fit c).After-is_region_identifier) (ap not c.if-not-is_region_identifier.false), failed c.percentages_fit.ensures (ap not c.if-not-percentages_fit.true))
 
 pub returns-then-settings-gt999999 : goal.returns-then-settings-gt999999
 unfolding first_failing region_test4

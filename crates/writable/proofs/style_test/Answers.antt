@@ -1,3 +1,4 @@
+use mathlib.Core.Bool.{not}
 use mathlib.Core.Path.{◌≡◌, ap, ◌∙◌}
 use Rattle.format.specs.Rows.{style_entry}
 use Rattle.format.specs.Texts.{bytes_at}
@@ -7,7 +8,6 @@ use Rattle.writable.proofs.FaultLaws.{failed, passed}
 use Rattle.writable.proofs.style_test.Goals as goal
 use Rattle.writable.proofs.style_test.Goals.{After-is_unbroken, After-part_plain}
 
--- `writable::style_test` meets its contract.
 -- the two tests, as the code asks them
 plain-is :
     (c : After-part_plain)
@@ -25,12 +25,12 @@ unbroken-is c =
 
 pub returns-then-not-part_plain : goal.returns-then-not-part_plain
 unfolding style_fails first_failing style_test1
-returns-then-not-part_plain c = rw (failed (plain-is (goal.at.returns-then-not-part_plain c).After-part_plain) c.if-not-part_plain.true-raw)
+returns-then-not-part_plain c = rw (failed (plain-is (goal.at.returns-then-not-part_plain c).After-part_plain) (ap not c.if-not-part_plain.true))
 
 pub returns-then-not-is_unbroken : goal.returns-then-not-is_unbroken
 unfolding style_fails first_failing style_test1
-returns-then-not-is_unbroken c = rw (passed (plain-is (goal.at.returns-then-not-is_unbroken c).After-part_plain) c.if-not-part_plain.false-raw, failed (unbroken-is (goal.at.returns-then-not-is_unbroken c).After-is_unbroken) c.if-not-is_unbroken.true-raw)
+returns-then-not-is_unbroken c = rw (passed (plain-is (goal.at.returns-then-not-is_unbroken c).After-part_plain) (ap not c.if-not-part_plain.false), failed (unbroken-is (goal.at.returns-then-not-is_unbroken c).After-is_unbroken) (ap not c.if-not-is_unbroken.true))
 
 pub returns : goal.returns
 unfolding style_fails first_failing style_test1
-returns c = rw (passed (plain-is (goal.at.returns c).After-part_plain) c.if-not-part_plain.false-raw, passed (unbroken-is (goal.at.returns c).After-is_unbroken) c.if-not-is_unbroken.false-raw)
+returns c = rw (passed (plain-is (goal.at.returns c).After-part_plain) (ap not c.if-not-part_plain.false), passed (unbroken-is (goal.at.returns c).After-is_unbroken) (ap not c.if-not-is_unbroken.false))

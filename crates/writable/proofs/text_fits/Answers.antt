@@ -3,7 +3,6 @@ use Rattle.format.specs.Writable.{cue_test3}
 use Rattle.values.proofs.NumberLaws.{empty_is, is_empty-not}
 use Rattle.writable.proofs.text_fits.Goals as goal
 
--- `writable::text_fits` meets its contract.
 pub returns-then-s-eq0 : goal.returns-then-s-eq0
 unfolding cue_test3
 returns-then-s-eq0 c = let a = c.args in rw (empty_is a.s.now c.if-s-eq0.true)

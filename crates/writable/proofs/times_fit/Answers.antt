@@ -2,7 +2,6 @@ use borrow.Author.Tests.{lt-ltb, le-ltb}
 use Rattle.format.specs.Writable.{cue_test4}
 use Rattle.writable.proofs.times_fit.Goals as goal
 
--- `writable::times_fit` meets its contract.
 pub returns-then-start-end : goal.returns-then-start-end
 unfolding cue_test4
 returns-then-start-end c = simp (lt-ltb _ _ c.if-start-end.true)

@@ -1,10 +1,9 @@
 use mathlib.Core.Path.{sym, ◌∙◌}
-use borrow.Author.Tests.{not-true, not-false}
 use Rattle.writable.proofs.texts.is_region_identifier.Goals as goal
 
 pub returns-then-not-no_white : goal.returns-then-not-no_white
-returns-then-not-no_white c = rw (sym c.no_white.ensures ∙ not-true c.no_white.result c.if-not-no_white.true-raw)
+returns-then-not-no_white c = rw (sym c.no_white.ensures ∙ c.if-not-no_white.true)
 
 pub returns : goal.returns
 returns c =
-    rw (c.holds_arrow.ensures, sym c.no_white.ensures ∙ not-false c.no_white.result c.if-not-no_white.false-raw)
+    rw (c.holds_arrow.ensures, sym c.no_white.ensures ∙ c.if-not-no_white.false)
