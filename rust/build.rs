@@ -1,4 +1,4 @@
-//! Links the archive of proved functions that `rt staticlib c_api` writes. `SPATZENHERD_ARCHIVE` names another folder that holds `libc_api.a`.
+//! Links the archive of proved functions that `scripts/archive` writes. `SPATZENHERD_ARCHIVE` names another folder that holds `libc_api.a`.
 //! The kit's version, for `vtt --version`, is what `rt version` prints.
 use std::env;
 use std::path::PathBuf;
@@ -10,7 +10,7 @@ fn main() {
     let folder = env::var_os("SPATZENHERD_ARCHIVE").map_or_else(|| package.join("../target/staticlib"), PathBuf::from);
     let archive = folder.join("libc_api.a");
     println!("cargo:rerun-if-changed={}", archive.display());
-    assert!(archive.is_file(), "{} is missing: run `rt staticlib c_api` in the folder above this package", archive.display());
+    assert!(archive.is_file(), "{} is missing: run `scripts/archive` in the folder above this package", archive.display());
     println!("cargo:rustc-link-search=native={}", folder.display());
     println!("cargo:rustc-link-lib=static=c_api");
     println!("cargo:rustc-env=SPATZENHERD_KIT={}", kit().unwrap_or("a kit that is not known".into()));
