@@ -22,7 +22,6 @@ use Rattle.values.specs.Tokens.{span_to, part_of}
 use Rattle.values.proofs.NumberLaws.{is_empty-not}
 use Rattle.timing.specs.TimingLines.{timing_line_is, timed_line_is, line_kind}
 use Rattle.format.specs.declared.times.TimingLine.{TimingLine}
-use Rattle.format.specs.declared.times.TimingLine.TheVariants as TimingLine
 use Rattle.format.specs.declared.settings.Span.{Span}
 use Rattle.regions.specs.Changes.{taken_is}
 use Rattle.blocks.specs.Items.{part, after_line_end, after_span, cue_with, item_is, kind_is, timed_is, timed_kind, region_item}

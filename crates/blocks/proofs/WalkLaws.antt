@@ -17,9 +17,7 @@ use Rattle.laws.proofs.Runs.{run-next, run-stop, run_end, run_at, run-after, run
 use Rattle.blocks.specs.declared.collecting.Head.{Head}
 use Rattle.blocks.specs.declared.collecting.Stop.{Stop}
 use Rattle.blocks.specs.declared.collecting.Why.{Why}
-use Rattle.blocks.specs.declared.collecting.Why.TheVariants as Why
 use Rattle.blocks.specs.declared.Next.{Next}
-use Rattle.blocks.specs.declared.Next.TheVariants as Next
 use Rattle.blocks.specs.Collecting.{line_ends, lines_from, head_after, collect_from, opening, in_line, line_at, first_end, header_end, past_empty, next_is, is_end, WhyIs}
 use Rattle.blocks.specs.Items.{meaning_at, PlacesIn, NextAt, NextIs, item_is, kind_is, kind_over}
 use Rattle.blocks.proofs.LineLaws.{ends-run, line_from, lines_next, lines_end, collect_empty, collect_arrow, collect_line}

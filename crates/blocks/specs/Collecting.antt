@@ -5,11 +5,9 @@ use Rattle.format.specs.Texts.{is_empty, run}
 use Rattle.format.specs.Lines.{split}
 use Rattle.format.specs.Blocks.{Line, lines_at, holds_arrow}
 use Rattle.blocks.specs.declared.collecting.Why.{Why}
-use Rattle.blocks.specs.declared.collecting.Why.TheVariants as Why
 use Rattle.blocks.specs.declared.collecting.Head.{Head}
 use Rattle.blocks.specs.declared.collecting.Stop.{Stop}
 use Rattle.blocks.specs.declared.Next.{Next}
-use Rattle.blocks.specs.declared.Next.TheVariants as Next
 
 -- how many LF a text has
 unfoldable pub line_ends : List ℕ → ℕ

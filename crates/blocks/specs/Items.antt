@@ -13,17 +13,13 @@ use Rattle.format.specs.LineNumbers.{first_number}
 use Rattle.format.specs.declared.settings.Span.{Span}
 use Rattle.values.specs.Tokens.{span_to}
 use Rattle.timing.specs.declared.timing_line.LineKind.{LineKind}
-use Rattle.timing.specs.declared.timing_line.LineKind.TheVariants as LineKind
 use Rattle.format.specs.declared.times.TimingLine.{TimingLine}
-use Rattle.format.specs.declared.times.TimingLine.TheVariants as TimingLine
 use Rattle.regions.specs.declared.RegionTaken.{RegionTaken}
 use Rattle.blocks.specs.Collecting.{line_ends, lines_from, is_end, WhyIs}
 use Rattle.blocks.specs.declared.collecting.Stop.{Stop}
 use Rattle.blocks.specs.declared.Next.{Next}
-use Rattle.blocks.specs.declared.Next.TheVariants as Next
 use Rattle.blocks.specs.declared.items.CueRead.{CueRead}
 use Rattle.blocks.specs.declared.items.ItemKind.{ItemKind}
-use Rattle.blocks.specs.declared.items.ItemKind.TheVariants as ItemKind
 use Rattle.blocks.specs.declared.items.Item as Made
 use Rattle.blocks.specs.declared.items.Item.TheVariants as Read
 

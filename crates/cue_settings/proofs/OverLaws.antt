@@ -1,18 +1,17 @@
 -- A number above its limit is one whatever the settings read so far are, and only a line number can be.
 use Prim.Native.Nat.{ℕ}
 use mathlib.Core.Path.{◌≡◌, refl, sym, ap, ◌∙◌}
-use mathlib.Core.Bool.{Bool, false, true, cond, not, ◌||◌}
+use mathlib.Core.Bool.{Bool, false, true, not, ◌||◌}
 use mathlib.Core.List.{List, [], ◌∷◌}
 use mathlib.Core.Option.{Option, none, some, Option-elim}
 use Rattle.format.specs.Bytes.{ascii, comma, percent}
-use Rattle.format.specs.Texts.{Part, is_empty, same, ends_with, before_first, after_first, has}
+use Rattle.format.specs.Texts.{Part, is_empty, same, ends_with, before_first, has}
 use Rattle.format.specs.Numbers.{percentage, LineNumber, line_number, over_line}
 use Rattle.format.specs.Tokens.{tokens, name_of, value_of, Flagged, folded}
 use Rattle.format.specs.CueSettings.{CueSettings, opening_settings, is_over, line_align, line_at_percentage, line_counted, line_aligned, line_change}
 use Rattle.format.specs.CueSettings.{position_align, position_aligned, position_change, named, cue_change, changed, cue_setting, cue_settings}
 use Rattle.format.specs.declared.settings.Settings.{Settings}
 use Rattle.format.specs.declared.settings.Change.{Change}
-use Rattle.format.specs.declared.settings.Change.TheVariants as Change
 use Rattle.format.specs.declared.settings.LineAlign.{LineAlign}
 use Rattle.format.specs.declared.settings.PositionAlign.{PositionAlign}
 use Rattle.laws.proofs.Runs.{same-is}

@@ -2,18 +2,17 @@
 use Prim.Native.Nat.{ℕ, ◌+◌, ◌-◌}
 use lib.ListN.{take, drop}
 use mathlib.Core.Path.{◌≡◌, refl, sym, ap}
-use mathlib.Core.Bool.{false, true, cond, ◌||◌}
-use mathlib.Core.List.{List, [], ◌∷◌}
+use mathlib.Core.Bool.{true, cond, ◌||◌}
+use mathlib.Core.List.{List}
 use mathlib.Core.Option.{Option, none, some, Option-elim}
 use Rattle.format.specs.Bytes.{ascii, percent}
 use Rattle.format.specs.Texts.{Part, is_empty, same, ends_with}
-use Rattle.format.specs.Numbers.{percentage, LineNumber, line_number, over_line, is_negative, millionths}
+use Rattle.format.specs.Numbers.{percentage, LineNumber, line_number, over_line}
 use Rattle.format.specs.Tokens.{name_of, value_of, Flagged, folded}
 use Rattle.format.specs.CueSettings.{CueSettings, settings_after, is_over, direction, line_at_percentage, line_counted, line_aligned, line_change}
 use Rattle.format.specs.CueSettings.{position_change, position_aligned, alignment, named, cue_change, changed, cue_setting, span_is}
 use Rattle.format.specs.declared.settings.Settings.{Settings}
 use Rattle.format.specs.declared.settings.Change.{Change}
-use Rattle.format.specs.declared.settings.Change.TheVariants as Change
 use Rattle.format.specs.declared.settings.LineAlign.{LineAlign}
 use Rattle.format.specs.declared.settings.PositionAlign.{PositionAlign}
 use Rattle.format.specs.declared.settings.Line.TheVariants as Line
@@ -23,16 +22,11 @@ use Rattle.laws.proofs.Changes.{name_after_lem, stepped, folds_as}
 use Rattle.values.specs.Tokens.{token_from, Named}
 use Rattle.values.specs.Numbers.{percentage_is, line_number_is}
 use Rattle.values.specs.declared.numbers.Percentage.{Percentage}
-use Rattle.values.specs.declared.numbers.Percentage.TheVariants as Percentage
 use Rattle.values.specs.declared.numbers.LineNumber.{LineNumber as Told}
-use Rattle.values.specs.declared.numbers.LineNumber.TheVariants as Told
 use Rattle.setting_words.specs.Words.{cue_name_is, line_aligned_is, position_aligned_is}
 use Rattle.setting_words.specs.declared.CueName.{CueName}
-use Rattle.setting_words.specs.declared.CueName.TheVariants as CueName
 use Rattle.setting_words.specs.declared.LineAligned.{LineAligned}
-use Rattle.setting_words.specs.declared.LineAligned.TheVariants as LineAligned
 use Rattle.setting_words.specs.declared.PositionAligned.{PositionAligned}
-use Rattle.setting_words.specs.declared.PositionAligned.TheVariants as PositionAligned
 use Rattle.cue_settings.specs.Steps.{step_with, step_is, taken_is}
 use Rattle.cue_settings.specs.declared.steps.CueTaken.{CueTaken}
 

@@ -15,9 +15,7 @@ use Rattle.format.specs.Fields.{giving, opens, unescaped_from}
 use Rattle.laws.proofs.Tests.{by-test}
 use Rattle.fields.specs.Fields.{escape_is, escaped_at, step_in, length_after, length_is, text_of, is_good}
 use Rattle.fields.specs.declared.Escape.{Escape}
-use Rattle.fields.specs.declared.Escape.TheVariants as Escape
 use Rattle.fields.specs.declared.FieldStep.{FieldStep}
-use Rattle.fields.specs.declared.FieldStep.TheVariants as FieldStep
 use Rattle.fields.specs.declared.FieldLength.TheVariants as FieldLength
 
 -- one byte before what the rest gives

@@ -6,13 +6,9 @@ use Rattle.format.specs.Texts.{is_empty, starts_with, all}
 use Rattle.format.specs.Numbers.{number_from}
 use Rattle.format.specs.Fields.{escapes}
 use Rattle.fields.specs.declared.FieldNumber.{FieldNumber}
-use Rattle.fields.specs.declared.FieldNumber.TheVariants as FieldNumber
 use Rattle.fields.specs.declared.Escape.{Escape}
-use Rattle.fields.specs.declared.Escape.TheVariants as Escape
 use Rattle.fields.specs.declared.FieldStep.{FieldStep}
-use Rattle.fields.specs.declared.FieldStep.TheVariants as FieldStep
 use Rattle.fields.specs.declared.FieldLength.{FieldLength}
-use Rattle.fields.specs.declared.FieldLength.TheVariants as FieldLength
 
 abbrev pub number_is : Option ℕ → FieldNumber
 number_is none = FieldNumber.Bad

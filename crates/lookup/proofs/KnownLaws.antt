@@ -15,7 +15,6 @@ use Rattle.format.specs.Replacing.{region_asked}
 use Rattle.format.specs.LookingUp.{look_up}
 use Rattle.format.specs.declared.settings.Span.{Span}
 use Rattle.format.specs.declared.rows.RegionIndex.{RegionIndex}
-use Rattle.format.specs.declared.rows.RegionIndex.TheVariants as RegionIndex
 use Rattle.laws.proofs.Tests.{by-test}
 use Rattle.laws.proofs.Runs.{same-is}
 use Rattle.laws.proofs.LookingUp.{look_up-named}

@@ -7,7 +7,6 @@ use Rattle.format.specs.Writable.{last_of_its_name, names_of}
 use Rattle.format.specs.Replacing.{region_asked}
 use Rattle.format.specs.declared.settings.Span.{Span}
 use Rattle.format.specs.declared.rows.RegionIndex.{RegionIndex}
-use Rattle.format.specs.declared.rows.RegionIndex.TheVariants as RegionIndex
 
 -- the region that a part of a text asks for by its name, among rows over that text; an empty part asks for none
 abbrev pub asked_at : List ℕ → List (List ℕ) → Span → RegionIndex

@@ -8,14 +8,11 @@ use Rattle.format.specs.Lists.{items, lists, any_over}
 use Rattle.format.specs.Replacing.{is_there, region_names}
 use Rattle.format.specs.declared.settings.Span.{Span}
 use Rattle.blocks.specs.declared.items.Item.{Item}
-use Rattle.blocks.specs.declared.items.Item.TheVariants as Item
 use Rattle.blocks.specs.declared.items.ItemKind.{ItemKind}
-use Rattle.blocks.specs.declared.items.ItemKind.TheVariants as ItemKind
 use Rattle.blocks.specs.Items.{kind_is}
 use Rattle.places.specs.Places.{OwnLines}
 use Rattle.places.specs.declared.inner.finding.Found.{Found}
 use Rattle.places.specs.declared.inner.finding.Surveyed.{Surveyed}
-use Rattle.places.specs.declared.inner.finding.Surveyed.TheVariants as Surveyed
 
 -- is the part of a text at these places this name
 abbrev pub has_name : List ℕ → Span → List ℕ → Bool

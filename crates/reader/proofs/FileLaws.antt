@@ -1,6 +1,6 @@
 -- Laws of reading a text that was just converted: which of its answers can come, and what each tells of the file.
 use Prim.Native.Nat.{ℕ, ◌≤◌}
-use mathlib.Core.Path.{◌≡◌, refl, sym, ap, ◌∙◌}
+use mathlib.Core.Path.{◌≡◌, refl, sym}
 use mathlib.Core.Bool.{Bool, true, false, cond, not, ◌||◌}
 use mathlib.Core.List.{List, [], ◌∷◌, ◌++◌}
 use native.Mathlib.Omega.{arith}
@@ -17,7 +17,6 @@ use Rattle.format.specs.Blocks.{has_signature}
 use Rattle.format.specs.Lists.{items, lists, any_over}
 use Rattle.format.specs.Reading.{reading_is, counts, reading, file_reading_is}
 use Rattle.format.specs.declared.Reading.{Reading}
-use Rattle.format.specs.declared.Reading.TheVariants as Reading
 use Rattle.reader.specs.Files.{file_told_is}
 
 -- a refusal by another number is not by this test

@@ -3,13 +3,10 @@ use Prim.Native.Nat.{ℕ, ◌≤◌, ◌<◌}
 use mathlib.Core.Path.{◌≡◌, refl, sym}
 use mathlib.Core.Bool.{true, false, ◌||◌}
 use mathlib.Core.List.{List, [], ◌∷◌}
-use mathlib.Core.Logic.{⊎_elim}
 use native.Mathlib.Omega.{arith}
 use lib.Dec.{ltb}
 use lib.ListN.{length}
 use borrow.Author.Tests.{ltb-false, lt-ltb, le-ltb}
-use types.Run.{OneOf}
-use denote.Enum.Declared.{tag_of}
 use Rattle.format.specs.Limits.{max_text}
 use Rattle.format.specs.Plain.{first_not_plain}
 use Rattle.format.specs.Blocks.{has_signature}
@@ -18,9 +15,7 @@ use Rattle.format.specs.Rows.{region_rows, style_rows, stored_cues}
 use Rattle.format.specs.Answers.{refused, if_accepted, placed}
 use Rattle.format.specs.Converting.{plainness_is, testing}
 use Rattle.format.specs.Reading.{reading_is, reading, counts, after_reading}
-use Rattle.format.specs.contracts.Reading.{the_type}
 use Rattle.format.specs.declared.Reading.{Reading}
-use Rattle.format.specs.declared.Reading.TheVariants as Reading
 use Rattle.laws.proofs.Answers.{not_plain}
 use Rattle.laws.proofs.Tests.{by-test, or_first, or_second}
 use Rattle.reader.specs.Counting.{tally_with, tally_is, counted_is, Readable, Refused, MeasuredIs}

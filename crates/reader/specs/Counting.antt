@@ -6,14 +6,11 @@ use Rattle.format.specs.Blocks.{has_signature}
 use Rattle.format.specs.Lists as Format
 use Rattle.format.specs.Reading.{reading_is, reading}
 use Rattle.format.specs.declared.Reading.{Reading}
-use Rattle.format.specs.declared.Reading.TheVariants as Reading
 use Rattle.blocks.specs.declared.items.Item.{Item}
 use Rattle.blocks.specs.declared.items.ItemKind.{ItemKind}
-use Rattle.blocks.specs.declared.items.ItemKind.TheVariants as ItemKind
 use Rattle.blocks.specs.Items.{kind_is}
 use Rattle.reader.specs.declared.counting.Counts.{Counts}
 use Rattle.reader.specs.declared.counting.Tally.{Tally}
-use Rattle.reader.specs.declared.counting.Tally.TheVariants as Tally
 
 abbrev pub with_kind : ItemKind → Counts → Counts
 with_kind ItemKind.Nothing n = n

@@ -1,9 +1,7 @@
 -- What reading a raw file tells, by what reading its plain text told.
 use Rattle.std.specs.Prelude.{ℕ}
 use Rattle.format.specs.declared.FileReading.{FileReading}
-use Rattle.format.specs.declared.FileReading.TheVariants as FileReading
 use Rattle.format.specs.declared.Reading.{Reading}
-use Rattle.format.specs.declared.Reading.TheVariants as Reading
 
 -- one case is not met, since a plain text is not refused by 3
 abbrev pub file_told_is : Reading → ℕ → FileReading

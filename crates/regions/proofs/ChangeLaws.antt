@@ -2,7 +2,7 @@
 use Prim.Native.Nat.{ℕ}
 use mathlib.Core.Path.{◌≡◌, refl, sym, ap}
 use mathlib.Core.Bool.{◌||◌}
-use mathlib.Core.List.{List, [], ◌∷◌}
+use mathlib.Core.List.{List}
 use mathlib.Core.Option.{Option, none, some, Option-elim}
 use lib.Dec.{ltb}
 use Rattle.format.specs.Texts.{Part}
@@ -11,17 +11,12 @@ use Rattle.format.specs.CueSettings.{span_is}
 use Rattle.format.specs.RegionSettings.{RegionValues, point_of, lines_change, region_after, over_region, region_change, region_setting}
 use Rattle.format.specs.declared.regions.Point.{Point}
 use Rattle.format.specs.declared.regions.RegionChange.{RegionChange}
-use Rattle.format.specs.declared.regions.RegionChange.TheVariants as RegionChange
 use Rattle.laws.proofs.Tests.{by-test}
 use Rattle.laws.proofs.Changes.{id_after_lem, stepped, folds_as}
 use Rattle.values.specs.declared.numbers.Percentage.{Percentage}
-use Rattle.values.specs.declared.numbers.Percentage.TheVariants as Percentage
 use Rattle.values.specs.declared.numbers.LineCount.{LineCount}
-use Rattle.values.specs.declared.numbers.LineCount.TheVariants as LineCount
 use Rattle.values.specs.Numbers.{percentage_is, line_count_is}
 use Rattle.regions.specs.declared.PointRead.{PointRead}
-use Rattle.regions.specs.declared.PointRead.TheVariants as PointRead
-use Rattle.regions.specs.declared.RegionTaken.{RegionTaken}
 use Rattle.regions.specs.Changes.{point_is, step_is, taken_is}
 
 abbrev pub point_from : Percentage → Percentage → PointRead

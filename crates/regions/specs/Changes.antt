@@ -7,7 +7,6 @@ use Rattle.format.specs.CueSettings.{span_is}
 use Rattle.format.specs.RegionSettings.{RegionValues, region_after, id_after, over_region, region_change, region_is}
 use Rattle.format.specs.declared.regions.Point.{Point}
 use Rattle.regions.specs.declared.PointRead.{PointRead}
-use Rattle.regions.specs.declared.PointRead.TheVariants as PointRead
 use Rattle.regions.specs.declared.RegionTaken.{RegionTaken}
 
 abbrev pub point_is : Option Point → PointRead

@@ -21,7 +21,6 @@ use Rattle.format.specs.Lists.{items, lists, any_over}
 use Rattle.format.specs.Answers.{if_accepted, file_answer}
 use Rattle.format.specs.Replacing.{new_cue_fails, region_names, new_file, no_gap, line_up_to, replacing_is, unless_test, replacing_text}
 use Rattle.format.specs.declared.Replacing.{Replacing}
-use Rattle.format.specs.declared.Replacing.TheVariants as Replacing
 use Rattle.laws.proofs.Tests.{by-test}
 use Rattle.laws.proofs.Lines.{splits}
 use Rattle.replaced.proofs.CueBlocks.{cue-block_at}

@@ -4,17 +4,11 @@ use Rattle.std.proofs.Math.Option.{Option, none, some}
 use Rattle.format.specs.Bytes.{ascii, comma}
 use Rattle.format.specs.Texts.{same, after_first, has}
 use Rattle.format.specs.declared.settings.LineAlign.{LineAlign}
-use Rattle.format.specs.declared.settings.LineAlign.TheVariants as LineAlign
 use Rattle.format.specs.declared.settings.PositionAlign.{PositionAlign}
-use Rattle.format.specs.declared.settings.PositionAlign.TheVariants as PositionAlign
 use Rattle.setting_words.specs.declared.CueName.{CueName}
-use Rattle.setting_words.specs.declared.CueName.TheVariants as CueName
 use Rattle.setting_words.specs.declared.AlignName.{AlignName}
-use Rattle.setting_words.specs.declared.AlignName.TheVariants as AlignName
 use Rattle.setting_words.specs.declared.LineAligned.{LineAligned}
-use Rattle.setting_words.specs.declared.LineAligned.TheVariants as LineAligned
 use Rattle.setting_words.specs.declared.PositionAligned.{PositionAligned}
-use Rattle.setting_words.specs.declared.PositionAligned.TheVariants as PositionAligned
 
 abbrev pub cue_name_is : List ℕ → CueName
 cue_name_is n =

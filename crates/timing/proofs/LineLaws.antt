@@ -27,7 +27,6 @@ use Rattle.timing.specs.declared.timing_line.ArrowEnd.TheVariants as ArrowEnd
 use Rattle.timing.specs.Usual.{UsualRead}
 use Rattle.timing.specs.TimingLines.{arrow_is, both_is, times_is, with_settings_is, line_from, timing_line_is, timed_line_is, line_kind}
 use Rattle.timing.specs.declared.timing_line.Times.{Times}
-use Rattle.timing.specs.declared.timing_line.Times.TheVariants as Times
 use Rattle.timing.specs.declared.timing_line.LineKind.TheVariants as LineKind
 use Rattle.format.specs.declared.times.TimingLine.{TimingLine}
 

@@ -7,15 +7,10 @@ use Rattle.format.specs.CueSettings.{span_is, cue_settings}
 use Rattle.format.specs.TimingLines as Format
 use Rattle.values.specs.Tokens.{token_from}
 use Rattle.format.specs.declared.times.Stamp.{Stamp}
-use Rattle.format.specs.declared.times.Stamp.TheVariants as Stamp
 use Rattle.timing.specs.declared.timing_line.ArrowEnd.{ArrowEnd}
-use Rattle.timing.specs.declared.timing_line.ArrowEnd.TheVariants as ArrowEnd
 use Rattle.timing.specs.declared.timing_line.Times.{Times}
-use Rattle.timing.specs.declared.timing_line.Times.TheVariants as Times
 use Rattle.timing.specs.declared.timing_line.LineKind.{LineKind}
-use Rattle.timing.specs.declared.timing_line.LineKind.TheVariants as LineKind
 use Rattle.format.specs.declared.times.TimingLine.{TimingLine}
-use Rattle.format.specs.declared.times.TimingLine.TheVariants as TimingLine
 
 -- n being the text's length
 abbrev pub arrow_is : ℕ → Result Unit → ArrowEnd

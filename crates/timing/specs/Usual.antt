@@ -6,7 +6,6 @@ use Rattle.format.specs.Numbers.{number}
 use Rattle.format.specs.Times.{got, Time, timestamp, milliseconds, over_hours}
 use Rattle.format.specs.TimingLines.{arrow_and_end, timings}
 use Rattle.timing.specs.declared.usual.Usual.{Usual}
-use Rattle.timing.specs.declared.usual.Usual.TheVariants as Usual
 
 -- a text that does not begin with a digit
 abbrev pub NoDigit : List ℕ → Type 0

@@ -1,4 +1,3 @@
-use Prim.Native.Nat.{◌-◌}
 use mathlib.Core.Path.{refl, ap, ◌∙◌}
 use mathlib.Core.Bool.{true, false}
 use native.Mathlib.Omega.{arith}
@@ -17,10 +16,10 @@ loop-i-init c = (omega arith, omega arith, refl)
 
 pub loop-i-preserved : goal.loop-i-preserved
 loop-i-preserved c =
-        let s = c.args.s.now in
+    let s = c.args.s.now in
     let next = ends_next s c.loop-i.i (omega arith) in
     elim c.if-s-i-eq10.branch [ then-s-i-eq10 w ↦ omega (arith, next true (eq-eqb (get_or s c.loop-i.i 0) lf w.if-s-i-eq10.true), w) | else-s-i-eq10 w ↦ omega (arith, next false (ne_eqb (get_or s c.loop-i.i 0) lf w.if-s-i-eq10.false), w) ]
 
 pub returns : goal.returns
 returns c =
-        c.loop-i.invariant.2 ∙ ap line_ends (take_all c.loop-i.i c.args.s.now (omega arith))
+    c.loop-i.invariant.2 ∙ ap line_ends (take_all c.loop-i.i c.args.s.now (omega arith))

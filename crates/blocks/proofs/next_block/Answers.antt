@@ -16,6 +16,6 @@ returns-then-s-from c =
 pub returns : goal.returns
 unfolding next_is
 returns c =
-        let args = c.args in
+    let args = c.args in
     let some : ltb (past_empty args.s.now args.at) (length args.s.now) ≡ true = rw c.past-from.ensures at (lt-ltb c.past-from.result (length args.s.now) c.if-s-from.false) in
     rw (some, ← c.past-from.ensures, c.collect.ensures)

@@ -30,6 +30,6 @@ collect-stop-requires c = omega (arith, inside (goal.at.collect-stop-requires c)
 pub returns : goal.returns
 unfolding header_end
 returns c =
-        let s = c.args.s.now in
+    let s = c.args.s.now in
     let n : eqb (first_end s) (length s) ≡ false = rw c.past-end.ensures at (ne_eqb c.past-end.result (length s) c.if-end-s.false) in
     rw (n, ← c.past-end.ensures, c.collect-stop.ensures)

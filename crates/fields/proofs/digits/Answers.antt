@@ -1,4 +1,4 @@
-use Prim.Native.Nat.{◌-◌, ◌≤◌, ◌<◌}
+use Prim.Native.Nat.{◌≤◌, ◌<◌}
 use mathlib.Core.Path.{◌≡◌, refl, sym, ap, ◌∙◌}
 use mathlib.Core.Bool.{false, not}
 use native.Mathlib.Numerals.{add-one}
@@ -21,14 +21,14 @@ ranged c h = digit_range _ (sym c.is_digit.ensures ∙ not-false c.is_digit.resu
 -- and there are at most 11 before it
 small : (c : After-is_digit) → c.loop-i.n < 100_000_000_000
 small c =
-        omega (arith, pow-le-pow_right {n = 10} (omega arith) {i = c.loop-i.i} {j = 11} (omega arith), c.loop-i.invariant.1)
+    omega (arith, pow-le-pow_right {n = 10} (omega arith) {i = c.loop-i.i} {j = 11} (omega arith), c.loop-i.invariant.1)
 
 pub loop-i-init : goal.loop-i-init
 loop-i-init c = (omega arith, omega arith, refl)
 
 pub returns-then-not-is_digit : goal.returns-then-not-is_digit
 returns-then-not-is_digit c =
-        let other = sym c.is_digit.ensures ∙ not-true c.is_digit.result c.if-not-is_digit.true-raw in
+    let other = sym c.is_digit.ensures ∙ not-true c.is_digit.result c.if-not-is_digit.true-raw in
     ap number_is (sym (digits-stop c.loop-i.n c.args.field.now c.loop-i.i (omega arith) other) ∙ c.loop-i.invariant.2)
 
 pub overflow_mul-n : goal.overflow_mul-n
@@ -45,7 +45,7 @@ overflow_add-n c = record { fits = omega (arith, small (goal.at.overflow_add-n c
 
 pub loop-i-preserved : goal.loop-i-preserved
 loop-i-preserved c =
-        let field = c.args.field.now in
+    let field = c.args.field.now in
     let i = c.loop-i.i in
     let here = sym c.is_digit.ensures ∙ not-false c.is_digit.result c.if-not-is_digit.false-raw in (
       omega arith,
@@ -55,4 +55,4 @@ loop-i-preserved c =
 
 pub returns : goal.returns
 returns c =
-        ap number_is (sym (digits-end c.loop-i.n c.args.field.now c.loop-i.i (omega arith)) ∙ c.loop-i.invariant.2)
+    ap number_is (sym (digits-end c.loop-i.n c.args.field.now c.loop-i.i (omega arith)) ∙ c.loop-i.invariant.2)

@@ -1,4 +1,4 @@
-use Prim.Native.Nat.{◌+◌, ◌-◌}
+use Prim.Native.Nat.{◌+◌}
 use mathlib.Core.Path.{◌≡◌, sym, ap, ◌∙◌}
 use native.Mathlib.Omega.{arith}
 use lib.ListN.{drop}
@@ -22,13 +22,13 @@ loop-next-init c = (omega arith, omega arith, length_from_lem (unescaped c.args.
 
 pub returns-in-End : goal.returns-in-End
 returns-in-End c =
-        let n = c.loop-next.n in
+    let n = c.loop-next.n in
     let all : n + 0 ≡ n = omega arith in
     sym (ap (length_after n) (step-made (goal.at.returns-in-End c).After-step c.in-End.is).text ∙ ap FieldLength.Of all) ∙ c.loop-next.invariant.2
 
 pub returns-in-Bad : goal.returns-in-Bad
 returns-in-Bad c =
-        sym (ap (length_after c.loop-next.n) (step-made (goal.at.returns-in-Bad c).After-step c.in-Bad.is).text) ∙ c.loop-next.invariant.2
+    sym (ap (length_after c.loop-next.n) (step-made (goal.at.returns-in-Bad c).After-step c.in-Bad.is).text) ∙ c.loop-next.invariant.2
 
 pub overflow_add-n : goal.overflow_add-n
 overflow_add-n c = omega (arith, (step-made (goal.at.overflow_add-n c).After-step c.in-Byte.is).moves)
@@ -38,7 +38,7 @@ loop-next-smaller c = omega (arith, (step-made (goal.at.loop-next-smaller c).Aft
 
 pub loop-next-preserved : goal.loop-next-preserved
 loop-next-preserved c =
-        let step = step-made (goal.at.loop-next-preserved c).After-step c.in-Byte.is in
+    let step = step-made (goal.at.loop-next-preserved c).After-step c.in-Byte.is in
     let rest = unescaped (drop c.in-Byte.next c.args.field.now) in (
       step.moves.1,
       omega (arith, step.moves),

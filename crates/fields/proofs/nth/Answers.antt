@@ -33,7 +33,7 @@ slice_bounds-result-end c = (field_at (goal.at.slice_bounds-result-end c).After-
 
 pub returns-then-left-eq0 : goal.returns-then-left-eq0
 returns-then-left-eq0 c =
-        sym (ap (λ k. get_or (parts_from tab c.args.line.now c.loop-at.at) k []) c.if-left-eq0.true ∙ ap (λ fs. get_or fs 0 []) (field_at (goal.at.returns-then-left-eq0 c).After-past-end).parts)
+    sym (ap (λ k. get_or (parts_from tab c.args.line.now c.loop-at.at) k []) c.if-left-eq0.true ∙ ap (λ fs. get_or fs 0 []) (field_at (goal.at.returns-then-left-eq0 c).After-past-end).parts)
     ∙ c.loop-at.invariant.1
 
 pub overflow_add-at : goal.overflow_add-at
@@ -44,7 +44,7 @@ loop-at-smaller c = omega (arith, (field_at (goal.at.loop-at-smaller c).After-pa
 
 pub loop-at-preserved : goal.loop-at-preserved
 loop-at-preserved c =
-        let here = field_at (goal.at.loop-at-preserved c).After-past-end in
+    let here = field_at (goal.at.loop-at-preserved c).After-past-end in
     let rest = parts_from tab c.args.line.now (c.past-end.result + 1) in (
       omega (arith, here.inside),
       sym (ap (λ fs. get_or fs c.loop-at.left []) here.parts ∙ after_first_lem _ rest c.loop-at.left c.if-left-eq0.false) ∙ c.loop-at.invariant.1,
@@ -52,4 +52,4 @@ loop-at-preserved c =
 
 pub returns : goal.returns
 returns c =
-        sym (ap (λ fs. get_or fs c.loop-at.left []) (parts-end tab c.args.line.now c.loop-at.at (omega arith))) ∙ c.loop-at.invariant.1
+    sym (ap (λ fs. get_or fs c.loop-at.left []) (parts-end tab c.args.line.now c.loop-at.at (omega arith))) ∙ c.loop-at.invariant.1

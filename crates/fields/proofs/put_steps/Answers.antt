@@ -1,4 +1,3 @@
-use Prim.Native.Nat.{◌-◌}
 use mathlib.Core.Path.{◌≡◌, refl, sym, ap, ◌∙◌}
 use native.Mathlib.Omega.{arith}
 use lib.ListN.{drop}
@@ -25,21 +24,21 @@ loop-value-init c = (refl, c.requires, λ n o p. p)
 
 pub returns-in-End : goal.returns-in-End
 returns-in-End c =
-        c.loop-value.invariant.2 _ _ (puts_as (sym (ap text_of (step-made (goal.at.returns-in-End c).After-step c.in-End.is).text)) (puts_none _ _))
+    c.loop-value.invariant.2 _ _ (puts_as (sym (ap text_of (step-made (goal.at.returns-in-End c).After-step c.in-End.is).text)) (puts_none _ _))
 
 -- TODO no goal: same-length-2 : tie.Need-same-length-2 invariant-loop decreases-loop
 -- same-length-2 c = c.before.before.before.loop.invariant.0
 
 pub returns-in-Bad : goal.returns-in-Bad
 returns-in-Bad c =
-        c.loop-value.invariant.2 _ _ (puts_as (sym (ap text_of (step-made (goal.at.returns-in-Bad c).After-step c.in-Bad.is).text)) (puts_none _ _))
+    c.loop-value.invariant.2 _ _ (puts_as (sym (ap text_of (step-made (goal.at.returns-in-Bad c).After-step c.in-Bad.is).text)) (puts_none _ _))
 
 pub loop-value-smaller : goal.loop-value-smaller
 loop-value-smaller c = omega (arith, (step-made (goal.at.loop-value-smaller c).After-step c.in-Byte.is).moves)
 
 pub loop-value-preserved : goal.loop-value-preserved
 loop-value-preserved c =
-            let step = step-made (goal.at.loop-value-preserved c).After-step c.in-Byte.is in
+    let step = step-made (goal.at.loop-value-preserved c).After-step c.in-Byte.is in
     let put = c.byte-to.ensures in
     let rest = unescaped (drop c.in-Byte.next c.args.field.now) in
     let good : IsGood rest = sym (good_more c.in-Byte.value rest) ∙ sym (ap is_good step.text) ∙ c.loop-value.invariant.1 in

@@ -8,16 +8,16 @@ use Rattle.fields.proofs.read_number.Goals as goal
 
 pub returns-then-not-begins_well : goal.returns-then-not-begins_well
 returns-then-not-begins_well c =
-        let field = c.args.field.now in
+    let field = c.args.field.now in
     let bad = sym c.begins_well.ensures ∙ not-true c.begins_well.result c.if-not-begins_well.true-raw in
     sym (ap number_is (number_is_lem field ∙ ap (λ t. cond t (digits_from 0 field) none) bad))
 
 pub digits-requires : goal.digits-requires
 digits-requires c =
-        begins-short c.args.field.now (sym c.begins_well.ensures ∙ not-false c.begins_well.result c.if-not-begins_well.false-raw)
+    begins-short c.args.field.now (sym c.begins_well.ensures ∙ not-false c.begins_well.result c.if-not-begins_well.false-raw)
 
 pub returns : goal.returns
 returns c =
-        let field = c.args.field.now in
+    let field = c.args.field.now in
     let good = sym c.begins_well.ensures ∙ not-false c.begins_well.result c.if-not-begins_well.false-raw in
     c.digits.ensures ∙ sym (ap number_is (number_is_lem field ∙ ap (λ t. cond t (digits_from 0 field) none) good))

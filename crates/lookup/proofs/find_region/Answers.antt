@@ -34,7 +34,7 @@ bounds-regions-i c = row_inside (goal.at.bounds-regions-i c).In-loop-i
 -- one turn: the record at i is the one, or those before it are left
 turn :
     (c : After-is_named)
-    →     let a = c.args in
+    → let a = c.args in
     let names = names_of a.text.now a.regions.now in
     let n = length a.regions.now in
     let i = c.loop-i.i - 1 in
@@ -42,7 +42,7 @@ turn :
     ≡ cond c.is_named.result (record { index = RegionIndex.At i; seen = n - i }) (more (n - i) (look_up a.name.now (take i names)))
 unfolding region_of_entry
 turn c =
-        let a = c.args in
+    let a = c.args in
     let s = a.text.now in
     let x = a.name.now in
     let names = names_of s a.regions.now in
@@ -58,7 +58,7 @@ turn c =
 
 pub returns-then-is_named : goal.returns-then-is_named
 returns-then-is_named c =
-        let a = c.args in
+    let a = c.args in
     let names = names_of a.text.now a.regions.now in
     let found = rw c.if-is_named.true at (turn (goal.at.returns-then-is_named c).After-is_named) in
     record {
@@ -71,7 +71,7 @@ loop-i-preserved c = (omega arith, turn (goal.at.loop-i-preserved c).After-is_na
 
 pub returns : goal.returns
 returns c =
-        let a = c.args in
+    let a = c.args in
     let names = names_of a.text.now a.regions.now in
     let n = length a.regions.now in
     let z : c.loop-i.i ≡ 0 = omega arith in

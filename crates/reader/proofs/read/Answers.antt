@@ -19,14 +19,14 @@ returns-then-text-gt-MAX_TEXT c =
 pub read_plain-requires : goal.read_plain-requires
 unfolding plainness_is
 read_plain-requires c =
-            let s = c.args.text.now in
+    let s = c.args.text.now in
     let plain = all_plain s (ap plainness_is (sym c.in-Plain.is) ∙ c.first_not_plain.ensures) in
     (c.if-text-gt-MAX_TEXT.false, ltb-false (first_not_plain s) (length s) plain)
 
 pub returns-in-NotPlainAt : goal.returns-in-NotPlainAt
 unfolding plainness_is
 returns-in-NotPlainAt c =
-            let a = c.args in
+    let a = c.args in
     let s = a.text.now in
     let i = c.in-NotPlainAt.i in
     let told = ap plainness_is (sym c.in-NotPlainAt.is) ∙ c.first_not_plain.ensures in

@@ -15,11 +15,11 @@ use Rattle.reader.proofs.read_file.Goals.{In-Text}
 -- the plain text stands in its room
 plain :
     (c : In-Text)
-    →     Converts c.args.raw.now c.in-Text.n c.convert.new.room
+    → Converts c.args.raw.now c.in-Text.n c.convert.new.room
 unfolding converted_is
 plain c =
-        let args = c.args in
-        converts args.raw.now args.text.now (rw c.in-Text.is at c.convert.ensures.answer) c.convert.ensures.room
+    let args = c.args in
+    converts args.raw.now args.text.now (rw c.in-Text.is at c.convert.ensures.answer) c.convert.ensures.room
 
 pub slice_bounds-read_plain-end : goal.slice_bounds-read_plain-end
 slice_bounds-read_plain-end c = (plain (goal.at.slice_bounds-read_plain-end c).In-Text).fits
@@ -30,16 +30,16 @@ slice_bounds-read_plain-end-in-Text c = sym (length-take-le _ _ (plain (goal.at.
 pub read_plain-requires : goal.read_plain-requires
 unfolding converted_is
 read_plain-requires c =
-            let args = c.args in
+    let args = c.args in
     let raw = args.raw.now in
     rw (plain (goal.at.read_plain-requires c).In-Text).text (short_enough raw (length args.text.now) (rw c.in-Text.is at c.convert.ensures.answer), omega (arith, plain_text-plain raw))
 
 pub returns-in-Text : goal.returns-in-Text
 unfolding file_reading reading_raw after_reading and_then if_accepted converted_is
 returns-in-Text c =
-                let args = c.args in
+    let args = c.args in
     let s = plain_text args.raw.now in
-        let made = rw (plain (goal.at.returns-in-Text c).In-Text).text at c.read_plain.ensures in
+    let made = rw (plain (goal.at.returns-in-Text c).In-Text).text at c.read_plain.ensures in
     let accepts = rw c.in-Text.is at c.convert.ensures.answer in
     let told-so =
     told s (length args.cues.now) (length args.regions.now) (length args.styles.now) c.in-Text.n c.read_plain.result

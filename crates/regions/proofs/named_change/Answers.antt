@@ -11,7 +11,6 @@ use Rattle.format.specs.Lines.{split_list_at, before, on_first}
 use Rattle.format.specs.Numbers.{percentage, line_count}
 use Rattle.format.specs.RegionSettings.{lines_change, point, region_named}
 use Rattle.format.specs.declared.regions.RegionChange.{RegionChange}
-use Rattle.format.specs.declared.regions.RegionChange.TheVariants as RegionChange
 use Rattle.laws.proofs.Tests.{by-test}
 use Rattle.values.proofs.NameLaws.{choice_at, no_choice}
 use Rattle.regions.proofs.named_change.Goals as goal

@@ -1,4 +1,3 @@
-use Prim.Native.Nat.{◌-◌}
 use mathlib.Core.Path.{◌≡◌, sym, ap, ◌∙◌}
 use mathlib.Core.List.{[]}
 use native.Mathlib.Omega.{arith}
@@ -25,24 +24,24 @@ loop-at-init c =
 pub returns-in_default : goal.returns-in_default
 unfolding stepped
 returns-in_default c =
-            let s = c.args.s.now in
+    let s = c.args.s.now in
     let none : tokens c.loop-at.i (drop c.loop-at.i s) ≡ [] = rw c.in_default.is at c.next_token-found.ensures in
     sym (ap (stepped step_is c.loop-at.taken) none) ∙ c.loop-at.invariant.1
 
 -- the token that was found
 token :
     (c : In-At)
-    →     TokenHere c.args.s.now c.loop-at.i c.in-At.at c.in-At.to
+    → TokenHere c.args.s.now c.loop-at.i c.in-At.at c.in-At.to
 token c = rw c.in-At.is at c.next_token-found.ensures
 
 pub slice_bounds-step-end : goal.slice_bounds-step-end
 slice_bounds-step-end c =
-        let s = c.args.s.now in
+    let s = c.args.s.now in
     sym (length-take-le c.in-At.to s (token (goal.at.slice_bounds-step-end c).In-At).inside)
 
 pub step-taken-requires : goal.step-taken-requires
 step-taken-requires c =
-        let s = c.args.s.now in
+    let s = c.args.s.now in
     omega (arith, length-take-le c.in-At.to s (token (goal.at.step-taken-requires c).In-At).inside, (token (goal.at.step-taken-requires c).In-At).some)
 
 pub loop-at-smaller : goal.loop-at-smaller
@@ -51,5 +50,5 @@ loop-at-smaller c = let t = token (goal.at.loop-at-smaller c).In-At in omega (ar
 pub loop-at-preserved : goal.loop-at-preserved
 unfolding stepped
 loop-at-preserved c =
-            let t = token (goal.at.loop-at-preserved c).In-At in
+    let t = token (goal.at.loop-at-preserved c).In-At in
     (t.inside, rw c.step-taken.ensures (sym (ap (stepped step_is c.loop-at.taken) t.first) ∙ c.loop-at.invariant.1))

@@ -16,12 +16,12 @@ change-is :
     → let args = c.args in c.named_change-change.result ≡ region_change (token_from args.s.now args.from)
 unfolding region_change
 change-is c =
-        let n = c.requires in
+    let n = c.requires in
     c.named_change-change.ensures ∙ rw (n.both, n.name, n.value, rest-is c.args.s.now (c.args.colon + 1))
 
 pub returns : goal.returns
 returns c =
-                    let s = c.args.s.now in
+    let s = c.args.s.now in
     let over : c.if-taken.over ≡ c.args.taken.over || over_region c.named_change-change.result =
     elim c.if-taken.branch [ then-taken w ↦ rw w.if-taken.true (w.over-is ∙ w.if-taken.true) | else-taken w ↦ rw w.if-taken.false (w.over-is ∙ w.is_over-over.ensures) ] in
     let value : c.span.result ≡ span_is (value_of (token_from s c.args.from)) =

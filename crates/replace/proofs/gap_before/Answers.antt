@@ -18,9 +18,9 @@ some c = some-before c.args.s.now c.args.place c.requires.1
 -- at a byte that is no line end, as many stand before it as before the place
 same :
     (c : In-loop-i)
-    →     let args = c.args in line_ends (take c.loop-i.i args.s.now) ≡ line_ends (take args.place args.s.now)
+    → let args = c.args in line_ends (take c.loop-i.i args.s.now) ≡ line_ends (take args.place args.s.now)
 same c =
-        let s = c.args.s.now in
+    let s = c.args.s.now in
     omega (arith, ends_next s c.loop-i.i (omega arith) false (ne_eqb (get_or s c.loop-i.i 0) lf c.loop-i-test.true))
 
 more : (c : In-loop-i) → 0 < c.loop-i.i
@@ -29,9 +29,9 @@ more c = some-before c.args.s.now c.loop-i.i (omega (arith, same c, c.requires.1
 -- at a line end, as many as the number of the line before
 number :
     (c : After-loop-i)
-    →     let args = c.args in line_ends (take args.place args.s.now) - 1 ≡ line_ends (take c.loop-i.i args.s.now)
+    → let args = c.args in line_ends (take args.place args.s.now) - 1 ≡ line_ends (take c.loop-i.i args.s.now)
 number c =
-        let s = c.args.s.now in
+    let s = c.args.s.now in
     omega (arith, ends_next s c.loop-i.i (omega arith) true (eq-eqb (get_or s c.loop-i.i 0) lf c.loop-i-test.false))
 
 pub overflow_sub-i : goal.overflow_sub-i
@@ -51,16 +51,16 @@ loop-i-smaller c = omega (arith, more (goal.at.loop-i-smaller c).In-loop-i)
 
 pub loop-i-preserved : goal.loop-i-preserved
 loop-i-preserved c =
-        let p = more (goal.at.loop-i-preserved c).In-loop-i in
+    let p = more (goal.at.loop-i-preserved c).In-loop-i in
     let e : c.loop-i.i - 1 + 1 ≡ c.loop-i.i = omega arith in
     (omega arith, ap (λ k. line_ends (take k c.args.s.now)) e ∙ same (goal.at.loop-i-preserved c).In-loop-i)
 
 pub returns-then-i-eq0 : goal.returns-then-i-eq0
 unfolding line_ends
 returns-then-i-eq0 c =
-        let e = c.if-i-eq0.true in
+    let e = c.if-i-eq0.true in
     sym (rw (number (goal.at.returns-then-i-eq0 c).After-loop-i, e) (first_gap c.args.s.now (omega arith) (rw e at c.loop-i-test.false)))
 
 pub returns-else-i-eq0 : goal.returns-else-i-eq0
 returns-else-i-eq0 c =
-            sym (rw (number (goal.at.returns-else-i-eq0 c).After-loop-i) (gap_is c.args.s.now (c.loop-i.i - 1) c.loop-i.i (omega arith) (omega arith) c.loop-i-test.false))
+    sym (rw (number (goal.at.returns-else-i-eq0 c).After-loop-i) (gap_is c.args.s.now (c.loop-i.i - 1) c.loop-i.i (omega arith) (omega arith) c.loop-i-test.false))

@@ -9,7 +9,7 @@ use Rattle.replace.proofs.put_file.Goals as goal
 pub returns : goal.returns
 unfolding in_place name_lent
 returns c =
-                                    let args = c.args in
+    let args = c.args in
     let lent = c.part-name.ensures ∙ ap (λ p. bytes_at args.text.now p.from p.to) c.new_cue_name-place.ensures in
     let a = puts_as (c.part.ensures ∙ front_part args.raw.now args.start) c.bytes-own.ensures in
     let b = puts_as (lent_form_lem args.text.now args.row c.cue_of_new-words.result c.part-name.result.now c.cue_of_new-words.ensures.0 lent) c.cue_named-after.ensures in

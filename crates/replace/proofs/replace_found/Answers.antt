@@ -21,7 +21,7 @@ gap :
     no_gap (plain_text args.raw.now) args.number args.text.now args.row ≡ c.lacks_gap.result
 unfolding cue_of_entry
 gap c from_own_lines =
-                let args = c.args in
+    let args = c.args in
     let own = args.found.own in
     let id = c.part-id.ensures ∙ ap (λ p. bytes_at args.text.now p.from p.to) c.new_cue_id-place.ensures in
     gap_told args.raw.now args.s.now args.text.now args.row c.part-id.result.now args.number own.from own.to c.lacks_gap.result
@@ -29,7 +29,7 @@ gap c from_own_lines =
 
 pub lacks_gap-requires : goal.lacks_gap-requires
 lacks_gap-requires c =
-        let args = c.args in
+    let args = c.args in
     let own = args.found.own in (
       omega (arith, (own-lines (goal.at.lacks_gap-requires c).Start).some, (own-lines (goal.at.lacks_gap-requires c).Start).inside),
       gap_inside args.s.now args.number own.from own.to (omega (arith, c.requires.1.counted, c.requires.2)) (own-lines (goal.at.lacks_gap-requires c).Start),
@@ -37,7 +37,7 @@ lacks_gap-requires c =
 
 pub returns-then-lacks_gap : goal.returns-then-lacks_gap
 returns-then-lacks_gap c =
-        let args = c.args in
+    let args = c.args in
     no_gap_lem args.raw.now args.number args.text.now args.row args.out.now (gap (goal.at.returns-then-lacks_gap c).After-lacks_gap (own-lines (goal.at.returns-then-lacks_gap c).Start) ∙ c.if-lacks_gap.true)
 
 pub replace_own-requires : goal.replace_own-requires
@@ -45,5 +45,5 @@ replace_own-requires c = (c.requires.0, own-lines (goal.at.replace_own-requires 
 
 pub returns : goal.returns
 returns c =
-            let args = c.args in
+    let args = c.args in
     gap_passed args.raw.now args.number args.text.now args.row args.out.now (gap (goal.at.returns c).After-lacks_gap (own-lines (goal.at.returns c).Start) ∙ c.if-lacks_gap.false) c.replace_own.ensures

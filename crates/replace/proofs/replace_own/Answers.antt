@@ -15,7 +15,7 @@ is-new :
     let start = c.raw_start-start.result in
     in_place args.raw.now start end args.text.now args.row ≡ new_file args.raw.now args.number args.text.now args.row
 is-new c =
-                        let args = c.args in
+    let args = c.args in
     file-is args.raw.now args.s.now args.text.now args.row args.number args.own.from args.own.to
     c.line_ends-first.result c.line_ends-more.result c.raw_start-start.result c.raw_end-end.result
     c.requires.0 c.requires.1 c.requires.2
@@ -25,19 +25,19 @@ is-new c =
 
 pub returns-then-need-gt-MAX_FILE : goal.returns-then-need-gt-MAX_FILE
 returns-then-need-gt-MAX_FILE c =
-        let new = is-new (goal.at.returns-then-need-gt-MAX_FILE c).After-put_file-need in
+    let new = is-new (goal.at.returns-then-need-gt-MAX_FILE c).After-put_file-need in
     let args = c.args in
     too_long_lem (new_file args.raw.now args.number args.text.now args.row) args.out.now (puts_as new c.put_file-need.ensures) c.if-need-gt-MAX_FILE.true
 
 pub returns-then-out-need : goal.returns-then-out-need
 returns-then-out-need c =
-        let new = is-new (goal.at.returns-then-out-need c).After-put_file-need in
+    let new = is-new (goal.at.returns-then-out-need c).After-put_file-need in
     let args = c.args in
     too_short (new_file args.raw.now args.number args.text.now args.row) args.out.now (puts_as new c.put_file-need.ensures) c.if-need-gt-MAX_FILE.false c.if-out-need.true
 
 pub returns : goal.returns
 returns c =
-                let new = is-new (goal.at.returns c).After-put_file-need in
+    let new = is-new (goal.at.returns c).After-put_file-need in
     let args = c.args in
     fits (new_file args.raw.now args.number args.text.now args.row) args.out.now (puts_as new c.put_file-need.ensures) c.if-need-gt-MAX_FILE.false c.if-out-need.false
     (puts_as new c.put_file.ensures)

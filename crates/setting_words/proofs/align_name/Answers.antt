@@ -17,7 +17,7 @@ comma-at c = first-is comma c.args.value.now c.past-comma.result c.past-comma.en
 
 pub returns-then-comma-value : goal.returns-then-comma-value
 returns-then-comma-value c =
-        rw (has-not comma c.args.value.now c.past-comma.result (comma-at (goal.at.returns-then-comma-value c).After-past-comma) c.if-comma-value.true)
+    rw (has-not comma c.args.value.now c.past-comma.result (comma-at (goal.at.returns-then-comma-value c).After-past-comma) c.if-comma-value.true)
 
 -- there is one
 within : (c : Else-comma-value) → (from_comma_at : let x = c.args.value.now in c.past-comma.result ≡ length (before_first comma x))
@@ -38,6 +38,6 @@ slice_bounds-align_word-start c = omega (arith, within (goal.at.slice_bounds-ali
 
 pub returns : goal.returns
 returns c =
-            let x = c.args.value.now in
+    let x = c.args.value.now in
     let at = c.past-comma.result in
     rw (has_one comma x at (comma-at (goal.at.returns c).After-past-comma) (within (goal.at.returns c).Else-comma-value (comma-at (goal.at.returns c).After-past-comma)), ← (beyond comma x at (comma-at (goal.at.returns c).After-past-comma) (within (goal.at.returns c).Else-comma-value (comma-at (goal.at.returns c).After-past-comma)))) c.align_word.ensures

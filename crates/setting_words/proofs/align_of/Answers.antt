@@ -5,7 +5,6 @@ use mathlib.Core.List.{List, [], ◌∷◌}
 use lib.ListN.{get_or}
 use Rattle.format.specs.CueSettings.{alignment}
 use Rattle.format.specs.declared.settings.Align.{Align}
-use Rattle.format.specs.declared.settings.Align.TheVariants as Align
 use Rattle.format.specs.Bytes.{ascii}
 use Rattle.format.specs.Lines.{split_list_at, before, on_first}
 use Rattle.values.proofs.NameLaws.{choice_at, no_choice}

@@ -5,7 +5,6 @@ use mathlib.Core.List.{List, [], ◌∷◌}
 use lib.ListN.{get_or}
 use Rattle.setting_words.specs.Words.{align_word_is}
 use Rattle.setting_words.specs.declared.AlignName.{AlignName}
-use Rattle.setting_words.specs.declared.AlignName.TheVariants as AlignName
 use Rattle.format.specs.Bytes.{ascii}
 use Rattle.format.specs.Lines.{split_list_at, before, on_first}
 use Rattle.values.proofs.NameLaws.{choice_at, no_choice}

@@ -22,6 +22,6 @@ read_timing_line-requires c = (cut (goal.at.read_timing_line-requires c).After-l
 
 pub returns : goal.returns
 returns c =
-        let args = c.args in
+    let args = c.args in
     let both = timing_told (part_of args.text.now args.from args.to) c.read_timing_line.result (c.read_timing_line.ensures ∙ ap timed_line_is (cut (goal.at.returns c).After-least-start).part) in
     record { is = both.0; answer = both.1 }

@@ -14,7 +14,7 @@ returns-then-s-i-lt3 c = let a = c.args in sym (arrow-short a.s.now a.i (omega a
 
 pub returns-then-s-i-eq45 : goal.returns-then-s-i-eq45
 returns-then-s-i-eq45 c =
-        let a = c.args in
+    let a = c.args in
     let s = a.s.now in
     rw (
       arrow-bytes s a.i (omega arith),
@@ -24,7 +24,7 @@ returns-then-s-i-eq45 c =
 
 pub returns-else-s-i-eq45 : goal.returns-else-s-i-eq45
 returns-else-s-i-eq45 c =
-        let a = c.args in
+    let a = c.args in
     let s = a.s.now in
     rw (
       arrow-bytes s a.i (omega arith),

@@ -1,4 +1,4 @@
-use Prim.Native.Nat.{ℕ, ◌+◌, ◌-◌, ◌<◌}
+use Prim.Native.Nat.{ℕ, ◌+◌, ◌<◌}
 use mathlib.Core.Path.{◌≡◌, refl, sym, ap, ◌∙◌}
 use mathlib.Core.Bool.{Bool, true, false, ◌||◌, ◌&&◌}
 use mathlib.Core.List.{List, [], ◌∷◌}
@@ -14,7 +14,6 @@ use Rattle.format.specs.Blocks.{holds_arrow}
 use Rattle.blocks.specs.declared.collecting.Head.{Head}
 use Rattle.blocks.specs.declared.collecting.Stop.{Stop}
 use Rattle.blocks.specs.declared.collecting.Why.{Why}
-use Rattle.blocks.specs.declared.collecting.Why.TheVariants as Why
 use Rattle.blocks.specs.Collecting.{lines_from, head_after, more_lines, collect_from, in_line, line_at}
 use Rattle.blocks.proofs.LineLaws.{line_stop, lines_end, arrow-next, collect_empty, collect_arrow, collect_line}
 use Rattle.blocks.proofs.collecting.collect.Goals as goal
@@ -56,7 +55,7 @@ ended :
     (c : After-loop-left)
     → line_at c.args.s.now c.loop-left.i ≡ []
 ended c =
-        line_stop c.args.s.now c.loop-left.i (omega arith) (sym c.in_line.ensures ∙ c.loop-left-test.false)
+    line_stop c.args.s.now c.loop-left.i (omega arith) (sym c.in_line.ensures ∙ c.loop-left-test.false)
 
 pub arrow_at-requires : goal.arrow_at-requires
 arrow_at-requires c = (here (goal.at.arrow_at-requires c).After-in_line c.loop-left-test.true).0
@@ -69,17 +68,17 @@ loop-left-smaller c = omega (arith, (here (goal.at.loop-left-smaller c).After-in
 
 -- the arrow that stands here, or none, is an arrow of the line
 module _
-  (s : List ℕ) (line i : ℕ) (arrow : Bool)
-  (known : holds_arrow (line_at s line) ≡ arrow || holds_arrow (line_at s i))
-  (byte : (i < length s) × (in_line (get_or s i 0) ≡ true))
-  (r : Bool) (found : r ≡ starts_with (ascii "-->") (drop i s))
+    (s : List ℕ) (line i : ℕ) (arrow : Bool)
+    (known : holds_arrow (line_at s line) ≡ arrow || holds_arrow (line_at s i))
+    (byte : (i < length s) × (in_line (get_or s i 0) ≡ true))
+    (r : Bool) (found : r ≡ starts_with (ascii "-->") (drop i s))
   where
-  arrow_is : (t : Bool) → r ≡ t → holds_arrow (line_at s line) ≡ arrow || (t || holds_arrow (line_at s (i + 1)))
-  arrow_is t e =
-      known ∙ ap (λ x. arrow || x) (arrow-next s i byte.0 byte.1 ∙ ap (λ x. x || holds_arrow (line_at s (i + 1))) (sym found ∙ e))
+    arrow_is : (t : Bool) → r ≡ t → holds_arrow (line_at s line) ≡ arrow || (t || holds_arrow (line_at s (i + 1)))
+    arrow_is t e =
+        known ∙ ap (λ x. arrow || x) (arrow-next s i byte.0 byte.1 ∙ ap (λ x. x || holds_arrow (line_at s (i + 1))) (sym found ∙ e))
 
-  arrow_found : r ≡ true → holds_arrow (line_at s line) ≡ true
-  arrow_found e = arrow_is true e ∙ or_true arrow
+    arrow_found : r ≡ true → holds_arrow (line_at s line) ≡ true
+    arrow_found e = arrow_is true e ∙ or_true arrow
 
 so_far :
     (c : Joined-arrow_at)
@@ -91,17 +90,15 @@ so_far c byte =
     let line = c.block.line in
     let i = c.loop-left.i in
     let arrow = c.loop-left.arrow in
-    elim c.if-arrow_at.branch
-    [ then-arrow_at+else-left-eq0 w ↦
-    (
-      rw w.arrow-is (arrow_found s line i arrow c.loop-left.invariant.3 byte c.arrow_at.result c.arrow_at.ensures w.if-arrow_at.true),
-      rw (ne_eqb c.block.head.left 0 w.if-left-eq0.false) refl,
-    )
-    | else-arrow_at w ↦
-    (
-      rw w.arrow-is (arrow_is s line i arrow c.loop-left.invariant.3 byte c.arrow_at.result c.arrow_at.ensures false w.if-arrow_at.false),
-      rw w.arrow-is c.loop-left.invariant.4,
-    )
+    elim c.if-arrow_at.branch [
+      | then-arrow_at+else-left-eq0 w ↦ (
+        rw w.arrow-is (arrow_found s line i arrow c.loop-left.invariant.3 byte c.arrow_at.result c.arrow_at.ensures w.if-arrow_at.true),
+        rw (ne_eqb c.block.head.left 0 w.if-left-eq0.false) refl,
+      )
+      | else-arrow_at w ↦ (
+        rw w.arrow-is (arrow_is s line i arrow c.loop-left.invariant.3 byte c.arrow_at.result c.arrow_at.ensures false w.if-arrow_at.false),
+        rw w.arrow-is c.loop-left.invariant.4,
+      )
     ]
 
 pub loop-left-preserved : goal.loop-left-preserved

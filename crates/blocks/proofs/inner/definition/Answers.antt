@@ -14,13 +14,13 @@ returns-then-seen c = rw c.if-seen.true
 
 pub returns-then-is_word : goal.returns-then-is_word
 returns-then-is_word c =
-            let a = c.args in
+    let a = c.args in
     rw (c.span.ensures, c.if-seen.false, sym c.is_word.ensures ∙ c.if-is_word.true)
     (ap Read.Style (span_part a.s.now (a.first + 1) a.to (omega arith) (omega arith)))
 
 pub returns-then-is_word-2 : goal.returns-then-is_word-2
 returns-then-is_word-2 c =
-                    let a = c.args in
+    let a = c.args in
     c.region_item.ensures
     ∙ ap region_item c.all_settings.ensures
     ∙ ap (λ p. region_item (taken_is (region_settings p))) (part_of_lem a.s.now (a.first + 1) a.to (omega arith) (omega arith))
@@ -29,4 +29,4 @@ returns-then-is_word-2 c =
 
 pub returns : goal.returns
 returns c =
-                    rw (c.if-seen.false, sym c.is_word.ensures ∙ c.if-is_word.false, sym c.is_word-2.ensures ∙ c.if-is_word-2.false)
+    rw (c.if-seen.false, sym c.is_word.ensures ∙ c.if-is_word.false, sym c.is_word-2.ensures ∙ c.if-is_word-2.false)

@@ -14,7 +14,7 @@ returns-then-first-stop c =
 pub returns-then-not-head : goal.returns-then-not-head
 unfolding meaning_at
 returns-then-not-head c =
-        let a = c.args in
+    let a = c.args in
     let s = a.s.now in
     let head = a.stop.head in
     λ e seen. rw (not-true head.timed c.if-not-head.true, ne_eqb head.first a.stop.to c.if-first-stop.false)
@@ -23,13 +23,13 @@ returns-then-not-head c =
 pub returns-then-first-end : goal.returns-then-first-end
 unfolding meaning_at
 returns-then-first-end c =
-        let a = c.args in
+    let a = c.args in
     let head = a.stop.head in
     λ e seen. rw (not-false head.timed c.if-not-head.false, eq-eqb head.first head.end c.if-first-end.true, c.no_time.ensures e)
 
 pub returns : goal.returns
 unfolding meaning_at
 returns c =
-        let a = c.args in
+    let a = c.args in
     let head = a.stop.head in
     λ e seen. rw (not-false head.timed c.if-not-head.false, ne_eqb head.first head.end c.if-first-end.false, c.no_time-2.ensures e)

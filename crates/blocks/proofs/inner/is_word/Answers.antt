@@ -17,12 +17,12 @@ slice_bounds-same_bytes-end c =
 
 pub returns-then-not-same_bytes : goal.returns-then-not-same_bytes
 returns-then-not-same_bytes c =
-        let a = c.args in
+    let a = c.args in
     sym (word-is a.word.now a.line.now c.if-line-n.false ∙ rw (sym c.same_bytes.ensures ∙ not-true c.same_bytes.result c.if-not-same_bytes.true-raw))
 
 pub returns : goal.returns
 returns c =
-            let a = c.args in
+    let a = c.args in
     let n = length a.word.now in
     rw c.past.ensures
     (run_to_end white a.line.now n c.if-line-n.false

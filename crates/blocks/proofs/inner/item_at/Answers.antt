@@ -18,14 +18,14 @@ returns-then-first-to c =
 pub returns-then-not-head : goal.returns-then-not-head
 unfolding meaning_at
 returns-then-not-head c =
-        let a = c.args in
+    let a = c.args in
     c.definition.ensures
     ∙ rw (not-true a.stop.head.timed c.if-not-head.true, ne_eqb a.stop.head.first a.stop.to c.if-first-to.false)
 
 pub returns-then-first-end : goal.returns-then-first-end
 unfolding meaning_at span_is is_empty
 returns-then-first-end c =
-            let a = c.args in
+    let a = c.args in
     let s = a.s.now in
     let head = a.stop.head in
     let to = a.stop.to in
@@ -42,7 +42,7 @@ returns-then-first-end c =
 pub returns : goal.returns
 unfolding meaning_at
 returns c =
-                let a = c.args in
+    let a = c.args in
     let s = a.s.now in
     let head = a.stop.head in
     let to = a.stop.to in

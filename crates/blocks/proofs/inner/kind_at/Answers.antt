@@ -23,7 +23,7 @@ returns-then-first-to c =
 pub returns-then-not-head : goal.returns-then-not-head
 unfolding meaning_at
 returns-then-not-head c =
-            let a = c.args in
+    let a = c.args in
     c.kind.ensures
     ∙ rw (
       c.definition.ensures,
@@ -34,7 +34,7 @@ returns-then-not-head c =
 pub returns-then-first-end : goal.returns-then-first-end
 unfolding meaning_at
 returns-then-first-end c =
-        let a = c.args in
+    let a = c.args in
     let s = a.s.now in
     let head = a.stop.head in
     let line = part s a.from head.end in
@@ -51,7 +51,7 @@ returns-then-first-end c =
 pub returns : goal.returns
 unfolding meaning_at
 returns c =
-            let a = c.args in
+    let a = c.args in
     let s = a.s.now in
     let head = a.stop.head in
     let apart = c.if-first-end.false in

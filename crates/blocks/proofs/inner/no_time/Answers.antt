@@ -14,7 +14,7 @@ returns-then-is_digit c = λ e. absurd (true≢false (sym e))
 
 pub returns : goal.returns
 returns c =
-        let a = c.args in
+    let a = c.args in
     λ e. other_line a.s.now a.from a.to (omega arith) (omega arith)
     (sym c.is_digit.ensures ∙ c.if-is_digit.false)
     (sym c.is_white.ensures ∙ not-true c.is_white.result e)

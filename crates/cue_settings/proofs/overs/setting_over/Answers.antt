@@ -8,11 +8,11 @@ use Rattle.cue_settings.proofs.overs.setting_over.Goals as goal
 
 pub returns-then-not-same_bytes : goal.returns-then-not-same_bytes
 returns-then-not-same_bytes c =
-        let args = c.args in
+    let args = c.args in
     sym (only_line args.name.now (drop args.from args.s.now) opening_settings (sym c.same_bytes.ensures ∙ not-true c.same_bytes.result c.if-not-same_bytes.true-raw))
 
 pub returns : goal.returns
 returns c =
-            let args = c.args in
+    let args = c.args in
     let named-line = sym c.same_bytes.ensures ∙ not-false c.same_bytes.result c.if-not-same_bytes.false-raw in
     rw (c.is_over.ensures, c.line_change-change.ensures, rest-is args.s.now args.from, is_line args.name.now (drop args.from args.s.now) opening_settings named-line)

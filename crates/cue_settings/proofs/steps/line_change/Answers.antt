@@ -15,7 +15,7 @@ returns-in_default c = rw (aligned_told_lem, sym c.line_align-aligned.ensures �
 pub returns-then-ends_with_percent : goal.returns-then-ends_with_percent
 unfolding line_change
 returns-then-ends_with_percent c =
-                    rw (
+    rw (
       aligned_told_lem,
       sym c.line_align-aligned.ensures ∙ c.in-Good.is,
       ← (upto comma c.args.value.now c.past-comma.result c.past-comma.ensures).0,
@@ -26,7 +26,7 @@ returns-then-ends_with_percent c =
 pub returns : goal.returns
 unfolding line_change
 returns c =
-                    rw (
+    rw (
       aligned_told_lem,
       sym c.line_align-aligned.ensures ∙ c.in-Good.is,
       ← (upto comma c.args.value.now c.past-comma.result c.past-comma.ensures).0,

@@ -7,7 +7,7 @@ use Rattle.cue_settings.proofs.steps.named_step.Goals.{else-taken, then-taken}
 
 pub returns : goal.returns
 returns c =
-                        let args = c.args in
+    let args = c.args in
     let over : c.if-taken.over ≡ args.taken.over || is_over c.named_change-change.result =
     elim c.if-taken.branch [ then-taken w ↦ rw w.if-taken.true (w.over-is ∙ w.if-taken.true) | else-taken w ↦ rw w.if-taken.false (w.over-is ∙ w.is_over-over.ensures) ] in
     let value = c.span.ensures ∙ span_is_lem args.s.now args.from c.requires in

@@ -17,7 +17,7 @@ percentage_is_lem :
     (c : After-read_percentage-read)
     → percentage_is (percentage (before_first comma c.args.value.now)) ≡ c.read_percentage-read.result
 percentage_is_lem c =
-        let cut = (upto comma c.args.value.now c.past-comma.result c.past-comma.ensures).0 in
+    let cut = (upto comma c.args.value.now c.past-comma.result c.past-comma.ensures).0 in
     ap (λ x. percentage_is (percentage x)) (sym cut) ∙ sym c.read_percentage-read.ensures
 
 pub returns-in_default : goal.returns-in_default
@@ -27,9 +27,9 @@ returns-in_default c = rw (position_told_lem, percentage_is_lem (goal.at.returns
 pub returns-in-Bad : goal.returns-in-Bad
 unfolding position_change
 returns-in-Bad c =
-            rw (position_told_lem, percentage_is_lem (goal.at.returns-in-Bad c).After-read_percentage-read ∙ c.in-Good.is, sym c.position_align.ensures ∙ c.in-Bad.is)
+    rw (position_told_lem, percentage_is_lem (goal.at.returns-in-Bad c).After-read_percentage-read ∙ c.in-Good.is, sym c.position_align.ensures ∙ c.in-Bad.is)
 
 pub returns-in-Good-position_align : goal.returns-in-Good-position_align
 unfolding position_change
 returns-in-Good-position_align c =
-            rw (position_told_lem, percentage_is_lem (goal.at.returns-in-Good-position_align c).After-read_percentage-read ∙ c.in-Good.is, sym c.position_align.ensures ∙ c.in-Good-position_align.is)
+    rw (position_told_lem, percentage_is_lem (goal.at.returns-in-Good-position_align c).After-read_percentage-read ∙ c.in-Good.is, sym c.position_align.ensures ∙ c.in-Good-position_align.is)

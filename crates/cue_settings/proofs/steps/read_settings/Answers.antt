@@ -1,4 +1,3 @@
-use Prim.Native.Nat.{◌-◌}
 use mathlib.Core.Path.{◌≡◌, sym, ap, ◌∙◌}
 use mathlib.Core.List.{[]}
 use native.Mathlib.Omega.{arith}
@@ -24,43 +23,43 @@ loop-at-init c =
 pub returns-in_default : goal.returns-in_default
 unfolding stepped
 returns-in_default c =
-            let s = c.args.s.now in
+    let s = c.args.s.now in
     let none : tokens c.loop-at.i (drop c.loop-at.i s) ≡ [] = rw c.in_default.is at c.next_token-found.ensures in
     sym (ap (stepped step_is c.loop-at.taken) none) ∙ c.loop-at.invariant.1
 
 -- the token that was found
 token :
     (c : In-At)
-    →     TokenHere c.args.s.now c.loop-at.i c.in-At.at c.in-At.to
+    → TokenHere c.args.s.now c.loop-at.i c.in-At.at c.in-At.to
 token c = rw c.in-At.is at c.next_token-found.ensures
 
 pub slice_bounds-token-end : goal.slice_bounds-token-end
 slice_bounds-token-end c =
-        let s = c.args.s.now in
+    let s = c.args.s.now in
     sym (length-take-le c.in-At.to s (token (goal.at.slice_bounds-token-end c).In-At).inside)
 
 pub name_end-named-requires : goal.name_end-named-requires
 name_end-named-requires c =
-        let s = c.args.s.now in
+    let s = c.args.s.now in
     omega (arith, length-take-le c.in-At.to s (token (goal.at.name_end-named-requires c).In-At).inside, (token (goal.at.name_end-named-requires c).In-At).some)
 
 -- what is left gives the whole, once this token is taken into account
 left :
     (c : In-At)
-    →     let s = c.args.s.now in
+    → let s = c.args.s.now in
     let to = c.in-At.to in
     stepped step_is (step_is (token_from (take to s) c.in-At.at) c.loop-at.taken) (tokens to (drop to s))
     ≡ taken_is (cue_settings (token_from s c.args.from))
 unfolding stepped
 left c =
-        sym (ap (stepped step_is c.loop-at.taken) (token c).first) ∙ c.loop-at.invariant.1
+    sym (ap (stepped step_is c.loop-at.taken) (token c).first) ∙ c.loop-at.invariant.1
 
 pub loop-at-smaller-in_default-named : goal.loop-at-smaller-in_default-named
 loop-at-smaller-in_default-named c = let t = token (goal.at.loop-at-smaller-in_default-named c).In-At in omega (arith, t.moves, t.inside)
 
 pub loop-at-preserved-in_default-named : goal.loop-at-preserved-in_default-named
 loop-at-preserved-in_default-named c =
-                let s = c.args.s.now in
+    let s = c.args.s.now in
     let to = c.in-At.to in
     let none = rw c.in_default-named.is at c.name_end-named.ensures in
     ((token (goal.at.loop-at-preserved-in_default-named c).In-At).inside, rw (unnamed_step (token_from (take to s) c.in-At.at) c.loop-at.taken none) at (left (goal.at.loop-at-preserved-in_default-named c).In-At))
@@ -68,7 +67,7 @@ loop-at-preserved-in_default-named c =
 -- the name and the value
 parted :
     (c : In-At-named)
-    →     let s = c.args.s.now in
+    → let s = c.args.s.now in
     Named (take c.in-At.to s) c.in-At.at c.in-At-named.colon
 parted c = rw c.in-At-named.is at c.name_end-named.ensures
 
@@ -83,7 +82,7 @@ slice_bounds-named_step-end c = omega (arith, (parted (goal.at.slice_bounds-name
 
 pub overflow_add-colon : goal.overflow_add-colon
 overflow_add-colon c =
-        let s = c.args.s.now in
+    let s = c.args.s.now in
     let t = token (goal.at.overflow_add-colon c).In-At in
     omega (arith, (parted (goal.at.overflow_add-colon c).In-At-named).inside, length-take-le c.in-At.to s t.inside, t.inside)
 
@@ -95,7 +94,7 @@ loop-at-smaller c = let t = token (goal.at.loop-at-smaller c).In-At in omega (ar
 
 pub loop-at-preserved : goal.loop-at-preserved
 loop-at-preserved c =
-                let s = c.args.s.now in
+    let s = c.args.s.now in
     let to = c.in-At.to in
     let made = c.named_step-taken.ensures ∙ named-step_is (take to s) c.in-At.at c.in-At-named.colon c.loop-at.taken (parted (goal.at.loop-at-preserved c).In-At-named) in
     ((token (goal.at.loop-at-preserved c).In-At).inside, rw made (left (goal.at.loop-at-preserved c).In-At))

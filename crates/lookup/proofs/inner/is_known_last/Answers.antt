@@ -12,7 +12,7 @@ use Rattle.lookup.proofs.inner.is_known_last.Goals as goal
 -- `lookup::inner::is_known_last` meets its contract.
 pub returns-then-regions-index : goal.returns-then-regions-index
 returns-then-regions-index c =
-        let a = c.args in
+    let a = c.args in
     record {
       answer = no_region_lem a.text.now a.regions.now a.index c.if-regions-index.true;
       known = c.requires.all_last;
@@ -20,7 +20,7 @@ returns-then-regions-index c =
 
 pub returns-then-known-place : goal.returns-then-known-place
 returns-then-known-place c =
-        let a = c.args in
+    let a = c.args in
     let inside : a.index % 256 < length a.known.now = omega (arith, c.requires.known_len) in
     record {
       answer = sym (c.requires.all_last (a.index % 256) inside a.index c.if-known-place.true);
@@ -36,7 +36,7 @@ returns-then-not-is_last_of_its_name c =
 
 pub returns : goal.returns
 returns c =
-            let a = c.args in
+    let a = c.args in
     let inside : a.index % 256 < length a.known.now = omega (arith, c.requires.known_len) in
     let names = names_of a.text.now a.regions.now in
     let is = sym (not-false c.is_last_of_its_name.result c.if-not-is_last_of_its_name.false-raw) ∙ c.is_last_of_its_name.ensures in

@@ -25,7 +25,7 @@ answer :
     → let a = c.args in
     is_index (option_of c.find_region-found.result.index) a.index ≡ last_of_its_name (names_of a.text.now a.regions.now) a.index
 answer c from_name_is =
-            let a = c.args in
+    let a = c.args in
     let names = names_of a.text.now a.regions.now in
     last-is
     a.text.now
@@ -41,7 +41,7 @@ returns-then-regions-index c = let a = c.args in no_region_lem a.text.now a.regi
 
 pub returns-then-name-eq0 : goal.returns-then-name-eq0
 returns-then-name-eq0 c =
-        let a = c.args in
+    let a = c.args in
     no_name a.text.now a.regions.now a.index c.if-regions-index.false (sym (ap length (name-is (goal.at.returns-then-name-eq0 c).After-part-name)) ∙ c.if-name-eq0.true)
 
 pub returns-in-None : goal.returns-in-None

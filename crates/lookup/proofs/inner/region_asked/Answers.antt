@@ -15,7 +15,7 @@ use Rattle.lookup.proofs.inner.region_asked.Goals.{Else-wanted-eq0}
 
 pub returns-then-wanted-eq0 : goal.returns-then-wanted-eq0
 returns-then-wanted-eq0 c =
-        let a = c.args in
+    let a = c.args in
     record {
       index = asked-none a.text.now a.regions.now a.name (sym (ap length c.part-wanted.ensures) ∙ c.if-wanted-eq0.true);
       known = c.requires.all_right;
@@ -28,7 +28,7 @@ found-is :
     f ≡ look_up c.part-wanted.result.now (names_of a.text.now a.regions.now)
     → f.index ≡ asked_at a.text.now a.regions.now a.name
 found-is c f e =
-        let a = c.args in
+    let a = c.args in
     let names = names_of a.text.now a.regions.now in
     ap (λ g. g.index) e
     ∙ ap (λ x. (look_up x names).index) c.part-wanted.ensures
@@ -36,12 +36,12 @@ found-is c f e =
 
 pub returns-then-is_named : goal.returns-then-is_named
 returns-then-is_named c =
-                        let a = c.args in
+    let a = c.args in
     let s = a.text.now in
     let p = c.place_of-place.result in
     let k = get_or a.known.now p [] in
     let inside : p < length a.known.now = omega (arith, c.place_of-place.ensures, c.requires.known_len) in
-        let alike : same (bytes_at s (known_name k).from (known_name k).to) (bytes_at s a.name.from a.name.to) ≡ true =
+    let alike : same (bytes_at s (known_name k).from (known_name k).to) (bytes_at s a.name.from a.name.to) ≡ true =
     ap (λ x. same (bytes_at s (known_name k).from (known_name k).to) x) (sym c.part-wanted.ensures)
     ∙ ap (λ n. same (bytes_at s n.from n.to) c.part-wanted.result.now) (sym c.known_name.ensures)
     ∙ sym c.is_named.ensures
@@ -53,7 +53,7 @@ returns-then-is_named c =
 
 pub returns : goal.returns
 returns c =
-                    let a = c.args in
+    let a = c.args in
     let s = a.text.now in
     let rows = a.regions.now in
     let p = c.place_of-place.result in

@@ -30,6 +30,6 @@ returns-then-at-raw c =
 pub returns : goal.returns
 unfolding ends_line starts_with
 returns c =
-        let args = c.args in
+    let args = c.args in
     let raw = args.raw.now in
     rw (c.if-b-ne13.false, drop-cons raw (args.at + 1) 0 (omega arith), and-true (eqb (get_or raw (args.at + 1) 0) lf))

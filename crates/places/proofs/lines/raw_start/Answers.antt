@@ -15,16 +15,16 @@ loop-i-init c =
 
 pub returns-then-k-n : goal.returns-then-k-n
 returns-then-k-n c =
-        let args = c.args in
+    let args = c.args in
     omega (arith, start-zero (drop c.loop-i.i args.raw.now) (args.n - c.loop-i.k) (omega arith))
 
 pub loop-i-preserved : goal.loop-i-preserved
 loop-i-preserved c =
-        let args = c.args in
+    let args = c.args in
     let ends = c.ends_line.ensures in
     let next = start-next args.raw.now c.loop-i.i (omega arith) (args.n - c.loop-i.k) (args.n - (c.loop-i.k + 1)) (omega arith) in
     elim c.if-ends_line.branch [ then-ends_line w ↦ rw w.k-is (omega (arith, next true (sym ends ∙ w.if-ends_line.true))) | else-ends_line w ↦ rw w.k-is (omega (arith, next false (sym ends ∙ w.if-ends_line.false))) ]
 
 pub returns : goal.returns
 returns c =
-        omega (arith, start-end c.args.raw.now c.loop-i.i (c.args.n - c.loop-i.k) (omega arith))
+    omega (arith, start-end c.args.raw.now c.loop-i.i (c.args.n - c.loop-i.k) (omega arith))

@@ -47,12 +47,12 @@ slice_bounds-entry-end c = (cue-room (goal.at.slice_bounds-entry-end c).In-Cue).
 
 pub slice_bounds-entry-end-in-Cue : goal.slice_bounds-entry-end-in-Cue
 slice_bounds-entry-end-in-Cue c =
-        let a = c.args in
+    let a = c.args in
     sym (length-take-le a.n.regions a.regions.now (cue-room (goal.at.slice_bounds-entry-end-in-Cue c).In-Cue).1)
 
 pub offset_bounds-cues-at : goal.offset_bounds-cues-at
 offset_bounds-cues-at c =
-        let room = (cue-room (goal.at.offset_bounds-cues-at c).In-Cue).0 in
+    let room = (cue-room (goal.at.offset_bounds-cues-at c).In-Cue).0 in
     let good = c.well_formed in
     search (rules, room, good)
 
@@ -61,7 +61,7 @@ bounds-cues-at c = (cue-room (goal.at.bounds-cues-at c).In-Cue).0
 
 pub offset_bounds-styles-at : goal.offset_bounds-styles-at
 offset_bounds-styles-at c =
-        let room = style-room (goal.at.offset_bounds-styles-at c).In-Style in
+    let room = style-room (goal.at.offset_bounds-styles-at c).In-Style in
     let good = c.well_formed.1.1.1.1.1.1.1.1.0 in
     search (rules, room, good)
 
@@ -70,7 +70,7 @@ bounds-styles-at c = style-room (goal.at.bounds-styles-at c).In-Style
 
 pub offset_bounds-regions-at : goal.offset_bounds-regions-at
 offset_bounds-regions-at c =
-        let room = region-room (goal.at.offset_bounds-regions-at c).In-Region in
+    let room = region-room (goal.at.offset_bounds-regions-at c).In-Region in
     let good = c.well_formed in
     search (rules, room, good)
 
@@ -123,7 +123,7 @@ returns-in-Style c =
 
 pub returns-in-Region : goal.returns-in-Region
 returns-in-Region c =
-            let a = c.args in
+    let a = c.args in
     let grown = right_grown a.text.now a.regions.now a.known.now a.n.regions (region_words c.in-Region.region) (region-room (goal.at.returns-in-Region c).In-Region) c.requires.all_right in
     rw (sym c.item_at.ensures ∙ c.in-Region.is, c.region_row.ensures)
     (record {

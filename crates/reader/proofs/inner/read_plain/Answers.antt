@@ -29,9 +29,9 @@ readable c = rw c.in-Lists.is at c.measure-measured.ensures
 
 pub returns-then-too_short : goal.returns-then-too_short
 returns-then-too_short c =
-        let a = c.args in
+    let a = c.args in
     let s = a.text.now in
-        let short = sym c.too_short.ensures ∙ c.if-too_short.true in
+    let short = sym c.too_short.ensures ∙ c.if-too_short.true in
     record {
       answer = short-answer s c.in-Lists.c c.in-Lists.r c.in-Lists.s (readable (goal.at.returns-then-too_short c).In-Lists) (length a.cues.now) (length a.regions.now) (length a.styles.now) short;
       cues = short-rows c.in-Lists.c c.in-Lists.r c.in-Lists.s (stored_cues s) a.cues.now;
@@ -41,9 +41,9 @@ returns-then-too_short c =
 
 pub fill-requires : goal.fill-requires
 fill-requires c =
-                let a = c.args in
+    let a = c.args in
     let s = a.text.now in
-        let m = readable (goal.at.fill-requires c).In-Lists in
+    let m = readable (goal.at.fill-requires c).In-Lists in
     let long = sym c.too_short.ensures ∙ c.if-too_short.false in
     record {
       from_in_bounds = (rw c.past_header-from.ensures (after-header s).0, ltb-false max_text (length s) m.size, rw c.past_header-from.ensures (after-header s).1, m.within);
@@ -52,9 +52,9 @@ fill-requires c =
 
 pub returns : goal.returns
 returns c =
-                let a = c.args in
+    let a = c.args in
     let s = a.text.now in
-        let m = readable (goal.at.returns c).In-Lists in
+    let m = readable (goal.at.returns c).In-Lists in
     let long = sym c.too_short.ensures ∙ c.if-too_short.false in
     record {
       answer = full_answer s c.in-Lists.c c.in-Lists.r c.in-Lists.s m (length a.cues.now) (length a.regions.now) (length a.styles.now) long;

@@ -12,5 +12,5 @@ returns-then-regions-need c = let a = c.args in rw (lt-ltb a.regions a.need.regi
 
 pub returns : goal.returns
 returns c =
-        let a = c.args in
+    let a = c.args in
     rw (le-ltb a.cues a.need.cues c.if-cues-need.false, le-ltb a.regions a.need.regions c.if-regions-need.false)

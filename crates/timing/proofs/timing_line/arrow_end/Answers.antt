@@ -42,21 +42,21 @@ returns-then-not-is_at c =
 
 pub returns-then-not-is_at-2 : goal.returns-then-not-is_at-2
 returns-then-not-is_at-2 c =
-            let args = c.args in
+    let args = c.args in
     let s = args.s.now in
     let missing = arrow-second s args.at (here (goal.at.returns-then-not-is_at-2 c).Else-not-is_at (first (goal.at.returns-then-not-is_at-2 c).After-is_at)) (sym c.is_at-2.ensures ∙ not-true _ c.if-not-is_at-2.true-raw) in
     c.no_arrow-then-not-is_at-2.ensures ∙ rw (missing, place_is s (args.at + 1) (omega (arith, within hyphen s args.at (here (goal.at.returns-then-not-is_at-2 c).Else-not-is_at (first (goal.at.returns-then-not-is_at-2 c).After-is_at)))))
 
 pub returns-then-not-is_at-3 : goal.returns-then-not-is_at-3
 returns-then-not-is_at-3 c =
-                let args = c.args in
+    let args = c.args in
     let s = args.s.now in
     let missing = arrow_third s args.at (here (goal.at.returns-then-not-is_at-3 c).Else-not-is_at (first (goal.at.returns-then-not-is_at-3 c).After-is_at)) (second (goal.at.returns-then-not-is_at-3 c).Else-not-is_at-2) (sym c.is_at-3.ensures ∙ not-true _ c.if-not-is_at-3.true-raw) in
     c.no_arrow-then-not-is_at-3.ensures ∙ rw (missing, place_is s (args.at + 2) (omega (arith, within hyphen s (args.at + 1) (second (goal.at.returns-then-not-is_at-3 c).Else-not-is_at-2))))
 
 pub returns : goal.returns
 returns c =
-                let args = c.args in
+    let args = c.args in
     let s = args.s.now in
     let third = sym c.is_at-3.ensures ∙ not-false _ c.if-not-is_at-3.false-raw in
     rw (arrow-here s args.at (here (goal.at.returns c).Else-not-is_at (first (goal.at.returns c).After-is_at)) (second (goal.at.returns c).Else-not-is_at-2) third, place_is s (args.at + 3) (omega (arith, within greater s (args.at + 2) third)))

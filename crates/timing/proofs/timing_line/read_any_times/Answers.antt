@@ -18,16 +18,16 @@ whites c = let args = c.args in run_at white args.s.now args.from c.past.result 
 -- a start time above the limit, and one that is not
 over :
     (c : In-Over) (from_whites : let args = c.args in RunAt white args.s.now args.from c.past.result)
-    →     (t : Time) × StampRead timestamp c.args.s.now c.past.result c.in-Over.next t × (over_hours t ≡ true)
+    → (t : Time) × StampRead timestamp c.args.s.now c.past.result c.in-Over.next t × (over_hours t ≡ true)
 over c from_whites =
-        stamp_over _ timestamp time_steps c.args.s.now c.past.result from_whites.inside c.in-Over.next
+    stamp_over _ timestamp time_steps c.args.s.now c.past.result from_whites.inside c.in-Over.next
     (sym c.in-Over.is ∙ c.read_timestamp.ensures)
 
 read :
     (c : In-At) (from_whites : let args = c.args in RunAt white args.s.now args.from c.past.result)
-    →     (t : Time) × StampRead timestamp c.args.s.now c.past.result c.in-At.next t × (over_hours t ≡ false) × (milliseconds t ≡ c.in-At.ms)
+    → (t : Time) × StampRead timestamp c.args.s.now c.past.result c.in-At.next t × (over_hours t ≡ false) × (milliseconds t ≡ c.in-At.ms)
 read c from_whites =
-        stamp_at _ timestamp time_steps c.args.s.now c.past.result from_whites.inside c.in-At.ms
+    stamp_at _ timestamp time_steps c.args.s.now c.past.result from_whites.inside c.in-At.ms
     c.in-At.next (sym c.in-At.is ∙ c.read_timestamp.ensures)
 
 pub read_end-requires : goal.read_end-requires
@@ -38,7 +38,7 @@ read_end-requires-in-At c = (read (goal.at.read_end-requires-in-At c).In-At (whi
 
 pub returns-in-Bad : goal.returns-in-Bad
 returns-in-Bad c =
-                let args = c.args in
+    let args = c.args in
     let s = args.s.now in
     let fault = c.in-Bad.fault in
     let place = c.in-Bad.at in
@@ -47,7 +47,7 @@ returns-in-Bad c =
 
 pub returns-in-Over : goal.returns-in-Over
 returns-in-Over c =
-            let args = c.args in
+    let args = c.args in
     let t = over (goal.at.returns-in-Over c).In-Over (whites (goal.at.returns-in-Over c).After-past) in
     c.both_times.ensures
     ∙ ap (both_is true 0) c.read_end.ensures
@@ -55,7 +55,7 @@ returns-in-Over c =
 
 pub returns-in-At : goal.returns-in-At
 returns-in-At c =
-            let args = c.args in
+    let args = c.args in
     let t = read (goal.at.returns-in-At c).In-At (whites (goal.at.returns-in-At c).After-past) in
     c.both_times-in-At.ensures
     ∙ ap (both_is false c.in-At.ms) c.read_end-in-At.ensures

@@ -22,14 +22,14 @@ arrow_end-requires c = (whites (goal.at.arrow_end-requires c).After-past).inside
 -- the arrow, and the whitespace after it
 arrowed :
     (c : In-At) (from_whites : let args = c.args in RunAt white args.s.now args.at c.past.result)
-    →     let s = c.args.s.now in
+    → let s = c.args.s.now in
     (c.in-At.next ≤ length s) × (arrow (drop c.past.result s) ≡ got tt (drop c.in-At.next s))
 arrowed c from_whites =
-        arrow_read c.args.s.now c.past.result from_whites.inside c.in-At.next
+    arrow_read c.args.s.now c.past.result from_whites.inside c.in-At.next
     (sym c.in-At.is ∙ c.arrow_end.ensures)
 
 beyond :
-    (c : After-past-in-At) (from_arrowed :     let s = c.args.s.now in
+    (c : After-past-in-At) (from_arrowed : let s = c.args.s.now in
     (c.in-At.next ≤ length s) × (arrow (drop c.past.result s) ≡ got tt (drop c.in-At.next s)))
     → RunAt white c.args.s.now c.in-At.next c.past-in-At.result
 beyond c from_arrowed =
@@ -38,7 +38,7 @@ beyond c from_arrowed =
 
 pub returns-in-Bad : goal.returns-in-Bad
 returns-in-Bad c =
-                let args = c.args in
+    let args = c.args in
     let s = args.s.now in
     let w = c.past.result in
     let fault = c.in-Bad.fault in
@@ -48,7 +48,7 @@ returns-in-Bad c =
 
 pub returns-in-At : goal.returns-in-At
 returns-in-At c =
-                let args = c.args in
+    let args = c.args in
     let s = args.s.now in
     let end = end_is s args.at c.past.result (whites (goal.at.returns-in-At c).After-past) c.in-At.next c.past-in-At.result (arrowed (goal.at.returns-in-At c).In-At (whites (goal.at.returns-in-At c).After-past)).1 (beyond (goal.at.returns-in-At c).After-past-in-At (arrowed (goal.at.returns-in-At c).In-At (whites (goal.at.returns-in-At c).After-past))) in
     c.read_timestamp.ensures ∙ ap (stamp_is (length s)) (sym end)

@@ -16,5 +16,5 @@ returns-in-Other c = c.read_any_times.ensures
 
 pub returns-in-Times : goal.returns-in-Times
 returns-in-Times c =
-        let args = c.args in
+    let args = c.args in
     usual_is args.s.now args.from c.in-Times.start c.in-Times.end (usual (goal.at.returns-in-Times c).In-Times)

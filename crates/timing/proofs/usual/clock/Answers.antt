@@ -12,8 +12,8 @@ value_of-requires c = sym c.is_digit.ensures ∙ c.if-is_digit.true
 
 pub returns-then-is_digit : goal.returns-then-is_digit
 returns-then-is_digit c =
-                                        let t = c.args.t.now in
-                        let thousandths = digits-next t 9 2 c.two-hundredths.result c.value_of.result (omega arith) (c.two-hundredths.ensures c.if-hundredths-lt100.true)
+    let t = c.args.t.now in
+    let thousandths = digits-next t 9 2 c.two-hundredths.result c.value_of.result (omega arith) (c.two-hundredths.ensures c.if-hundredths-lt100.true)
     (sym c.is_digit.ensures ∙ c.if-is_digit.true) c.value_of.ensures.0 in
     λ l. rw c.in_milliseconds.ensures
     (clock_read t (omega arith) c.two-hours.result c.two-minutes.result c.two-seconds.result (c.two-hundredths.result * 10 + c.value_of.result)

@@ -11,7 +11,7 @@ value_of-requires-then-is_digit-2 c = sym c.is_digit-then-is_digit.ensures ∙ c
 
 pub returns-then-is_digit-2 : goal.returns-then-is_digit-2
 returns-then-is_digit-2 c =
-                let args = c.args in
+    let args = c.args in
     let t = args.t.now in
     let v = c.value_of.result in
     let a = sym c.is_digit.ensures ∙ c.if-is_digit.true in

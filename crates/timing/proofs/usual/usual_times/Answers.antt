@@ -5,7 +5,7 @@ use Rattle.timing.proofs.usual.usual_times.Goals as goal
 
 pub returns-then-no_digit : goal.returns-then-no_digit
 returns-then-no_digit c =
-                        let args = c.args in
+    let args = c.args in
     let s = args.s.now in
     let x = drop args.at s in
     let whole = rest s args.at in

@@ -1,4 +1,3 @@
-use Prim.Native.Nat.{◌-◌}
 use mathlib.Core.Path.{◌≡◌, sym, ap, ◌∙◌}
 use mathlib.Core.Bool.{true}
 use mathlib.Core.List.{[]}
@@ -16,12 +15,12 @@ use Rattle.places.proofs.inner.finding.survey.Goals.{After-kind_over, After-with
 
 pub returns-then-not-has_signature : goal.returns-then-not-has_signature
 returns-then-not-has_signature c =
-        sym c.has_signature.ensures ∙ not-true c.has_signature.result c.if-not-has_signature.true-raw
+    sym c.has_signature.ensures ∙ not-true c.has_signature.result c.if-not-has_signature.true-raw
 
 -- the text has the signature
 signed : (c : Else-not-has_signature) → has_signature c.args.s.now ≡ true
 signed c =
-        sym c.has_signature.ensures ∙ not-false c.has_signature.result c.if-not-has_signature.false-raw
+    sym c.has_signature.ensures ∙ not-false c.has_signature.result c.if-not-has_signature.false-raw
 
 pub loop-from-init : goal.loop-from-init
 loop-from-init c =
@@ -31,7 +30,7 @@ loop-from-init c =
 
 pub returns-in_default : goal.returns-in_default
 returns-in_default c =
-                let args = c.args in
+    let args = c.args in
     let none : fresh args.s.now c.loop-from.at ≡ [] = next-none args.s.now c.loop-from.at c.next_block-next.result c.next_block-next.ensures c.in_default.is in
     walk_end args.s.now args.number args.name.now c.loop-from.at c.loop-from.found c.loop-from.invariant (signed (goal.at.returns-in_default c).Else-not-has_signature) none
 
@@ -47,14 +46,13 @@ kind_at-kind-requires c = inside (goal.at.kind_at-kind-requires c).In-Block
 
 over : (c : After-kind_over) → item_over (meaning_at (ltb 0 c.loop-from.found.cues) (c.args.s.now) (c.in-Block.from) (c.in-Block.stop)) ≡ c.kind_over.result
 over c =
-        sym (over-is (meaning_at (ltb 0 c.loop-from.found.cues) (c.args.s.now) (c.in-Block.from) (c.in-Block.stop))) ∙ ap kind_over (sym c.kind_at-kind.ensures) ∙ sym c.kind_over.ensures
+    sym (over-is (meaning_at (ltb 0 c.loop-from.found.cues) (c.args.s.now) (c.in-Block.from) (c.in-Block.stop))) ∙ ap kind_over (sym c.kind_at-kind.ensures) ∙ sym c.kind_over.ensures
 
 pub returns-then-kind_over : goal.returns-then-kind_over
-returns-then-kind_over c =
-        (
-      signed (goal.at.returns-then-kind_over c).Else-not-has_signature,
-      walk_over c.args.s.now c.args.number c.args.name.now c.loop-from.at c.loop-from.found c.loop-from.invariant c.in-Block.from c.in-Block.stop (found (goal.at.returns-then-kind_over c).In-Block) (over (goal.at.returns-then-kind_over c).After-kind_over ∙ c.if-kind_over.true),
-    )
+returns-then-kind_over c = (
+  signed (goal.at.returns-then-kind_over c).Else-not-has_signature,
+  walk_over c.args.s.now c.args.number c.args.name.now c.loop-from.at c.loop-from.found c.loop-from.invariant c.in-Block.from c.in-Block.stop (found (goal.at.returns-then-kind_over c).In-Block) (over (goal.at.returns-then-kind_over c).After-kind_over ∙ c.if-kind_over.true),
+)
 
 pub with_block-found-requires : goal.with_block-found-requires
 with_block-found-requires c =
@@ -67,19 +65,19 @@ with_block-found-requires c =
 -- what is found with the item
 more :
     (c : After-with_block-found) (from_found : NextAt (c.args.s.now) c.loop-from.at (c.in-Block.from) (c.in-Block.stop)) (from_over : item_over (meaning_at (ltb 0 c.loop-from.found.cues) (c.args.s.now) (c.in-Block.from) (c.in-Block.stop)) ≡ c.kind_over.result)
-    →     Walking c.args.s.now c.args.number c.args.name.now c.in-Block.stop.at c.with_block-found.result
+    → Walking c.args.s.now c.args.number c.args.name.now c.in-Block.stop.at c.with_block-found.result
 more c from_found from_over =
-                rw c.with_block-found.ensures
+    rw c.with_block-found.ensures
     (walk_next c.args.s.now c.args.number c.args.name.now c.loop-from.at c.loop-from.found c.loop-from.invariant c.in-Block.from c.in-Block.stop from_found (from_over ∙ c.if-kind_over.false))
 
 pub returns-then-is_last : goal.returns-then-is_last
 returns-then-is_last c =
-            let none = last c.args.s.now c.loop-from.at c.in-Block.from c.in-Block.stop (found (goal.at.returns-then-is_last c).In-Block) (sym c.is_last.ensures ∙ c.if-is_last.true) in
+    let none = last c.args.s.now c.loop-from.at c.in-Block.from c.in-Block.stop (found (goal.at.returns-then-is_last c).In-Block) (sym c.is_last.ensures ∙ c.if-is_last.true) in
     walk_end c.args.s.now c.args.number c.args.name.now c.in-Block.stop.at c.with_block-found.result (more (goal.at.returns-then-is_last c).After-with_block-found (found (goal.at.returns-then-is_last c).In-Block) (over (goal.at.returns-then-is_last c).After-kind_over)) (signed (goal.at.returns-then-is_last c).Else-not-has_signature) none
 
 pub loop-from-smaller : goal.loop-from-smaller
 loop-from-smaller c =
-        omega (arith, moves c.args.s.now c.loop-from.at c.in-Block.from c.in-Block.stop (found (goal.at.loop-from-smaller c).In-Block), (found (goal.at.loop-from-smaller c).In-Block).block.inside)
+    omega (arith, moves c.args.s.now c.loop-from.at c.in-Block.from c.in-Block.stop (found (goal.at.loop-from-smaller c).In-Block), (found (goal.at.loop-from-smaller c).In-Block).block.inside)
 
 pub loop-from-preserved : goal.loop-from-preserved
 loop-from-preserved c = more (goal.at.loop-from-preserved c).After-with_block-found (found (goal.at.loop-from-preserved c).In-Block) (over (goal.at.loop-from-preserved c).After-kind_over)

@@ -9,18 +9,18 @@ returns-in-Over c = rw (sym c.requires.kind_value ∙ c.in-Over.is)
 
 pub returns-in-Cue : goal.returns-in-Cue
 returns-in-Cue c =
-        rw (sym c.requires.kind_value ∙ c.in-Cue.is, c.own_lines-own.ensures)
+    rw (sym c.requires.kind_value ∙ c.in-Cue.is, c.own_lines-own.ensures)
 
 pub returns-in-Style : goal.returns-in-Style
 returns-in-Style c = rw (sym c.requires.kind_value ∙ c.in-Style.is)
 
 pub returns-then-found : goal.returns-then-found
 returns-then-found c =
-        rw (sym c.requires.kind_value ∙ c.in-Region.is, c.if-found.true)
+    rw (sym c.requires.kind_value ∙ c.in-Region.is, c.if-found.true)
 
 pub returns-else-found : goal.returns-else-found
 returns-else-found c =
-            rw (
+    rw (
       sym c.requires.kind_value ∙ c.in-Region.is,
       c.if-found.false,
       c.is_region_named.ensures,

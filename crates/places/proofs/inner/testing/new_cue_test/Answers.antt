@@ -25,7 +25,7 @@ plain-is c =
 name-is : (c : After-part-name) → let a = c.args in c.part-name.result.now ≡ name_lent a.text.now a.row
 unfolding name_lent
 name-is c =
-        let a = c.args in
+    let a = c.args in
     c.part-name.ensures ∙ ap (λ p. bytes_at a.text.now p.from p.to) c.new_cue_name-place.ensures
 
 -- what is left to test where the fields pass
@@ -44,21 +44,21 @@ returns-then-not-part_plain c names e = rw (failed (plain-is (goal.at.returns-th
 
 pub returns-then-fields-ne0 : goal.returns-then-fields-ne0
 returns-then-fields-ne0 c names e =
-                let a = c.args in
+    let a = c.args in
     fields_fail a.text.now a.row _ names (passed (plain-is (goal.at.returns-then-fields-ne0 c).After-part_plain) c.if-not-part_plain.false-raw)
     (c.cue_of_new.ensures.0, c.cue_of_new.ensures.1) c.cue_fields_test-fields.ensures c.if-fields-ne0.true
 
 pub returns-then-name-eq0 : goal.returns-then-name-eq0
 unfolding new_test6 first_failing
 returns-then-name-eq0 c names e =
-        rw (left (goal.at.returns-then-name-eq0 c).After-part-name names (plain-is (goal.at.returns-then-name-eq0 c).After-part_plain), ← (name-is (goal.at.returns-then-name-eq0 c).After-part-name), empty_is c.part-name.result.now c.if-name-eq0.true) refl
+    rw (left (goal.at.returns-then-name-eq0 c).After-part-name names (plain-is (goal.at.returns-then-name-eq0 c).After-part_plain), ← (name-is (goal.at.returns-then-name-eq0 c).After-part-name), empty_is c.part-name.result.now c.if-name-eq0.true) refl
 
 pub returns-then-named : goal.returns-then-named
 unfolding new_test6 first_failing
 returns-then-named c names e =
-        rw (left (goal.at.returns-then-named c).After-part-name names (plain-is (goal.at.returns-then-named c).After-part_plain), ← e, c.if-named.true, or_true (is_empty (name_lent _ _))) refl
+    rw (left (goal.at.returns-then-named c).After-part-name names (plain-is (goal.at.returns-then-named c).After-part_plain), ← e, c.if-named.true, or_true (is_empty (name_lent _ _))) refl
 
 pub returns : goal.returns
 unfolding new_test6 first_failing
 returns c names e =
-        rw (left (goal.at.returns c).After-part-name names (plain-is (goal.at.returns c).After-part_plain), ← e, c.if-named.false, ← (name-is (goal.at.returns c).After-part-name), is_empty-not c.part-name.result.now (omega arith)) refl
+    rw (left (goal.at.returns c).After-part-name names (plain-is (goal.at.returns c).After-part_plain), ← e, c.if-named.false, ← (name-is (goal.at.returns c).After-part-name), is_empty-not c.part-name.result.now (omega arith)) refl
