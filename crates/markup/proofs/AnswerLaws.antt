@@ -14,7 +14,6 @@ use Rattle.format.specs.Trees.{any_time_over, nodes, node_strings, node_rows, tr
 use Rattle.format.specs.Answers.{Answer, accepted, refused, if_accepted, placed}
 use Rattle.format.specs.Converting.{plainness_is, testing}
 use Rattle.format.specs.declared.Tree.{Tree}
-use Rattle.format.specs.declared.Tree.TheVariants as Tree
 use Rattle.laws.proofs.Answers.{after_test, front, not_plain, all_plain}
 use Rattle.node_laws.proofs.RowLaws.{length-rows, tree_stands}
 use Rattle.node_sizes.specs.Needs.{Sized}
@@ -49,15 +48,15 @@ same_answer e x = rw e x
 module _ (s : List ℕ) (count used room table : ℕ) (z : Sized s count used) where
   pub room-short : room < used → sized_answer s room table ≡ refused 2 (used ∷ [])
   unfolding sized_answer
-  room-short h = rw (sym z.decreases, lt-ltb room used h)
+  room-short h = rw (sym z.measured, lt-ltb room used h)
 
   pub table-short : used ≤ room → table < count → sized_answer s room table ≡ refused 6 (count ∷ [])
   unfolding sized_answer
-  table-short h l = rw (sym z.decreases, sym z.counted, le-ltb room used h, lt-ltb table count l)
+  table-short h l = rw (sym z.measured, sym z.counted, le-ltb room used h, lt-ltb table count l)
 
   pub long_enough : used ≤ room → count ≤ table → sized_answer s room table ≡ accepted (count ∷ used ∷ [])
   unfolding sized_answer
-  long_enough h l = rw (sym z.decreases, sym z.counted, le-ltb room used h, le-ltb table count l)
+  long_enough h l = rw (sym z.measured, sym z.counted, le-ltb room used h, le-ltb table count l)
 
 module _ (s : List ℕ) (room table : ℕ) where
   pub over-answer : any_time_over (cue_tokens s) ≡ true → timed_answer s room table ≡ refused 5 []

@@ -12,9 +12,8 @@ use Rattle.format.specs.Bytes.{less, solidus, digit, white, space}
 use Rattle.format.specs.Texts.{is_empty, run, past_run}
 use Rattle.format.specs.Times.{Time}
 use Rattle.format.specs.CueText.{Token, string_token, start_tag, end_tag, timestamp_tag, visit_end, cue_tokens_from, cue_tokens}
-use Rattle.format.specs.Trees.{Node, is_kind, Open, kind_of, attached, class_string, tag_time, value_for, element, stamped, made, path_after, nodes_from, nodes, node_strings}
+use Rattle.format.specs.Trees.{is_kind, Open, kind_of, attached, class_string, tag_time, value_for, element, stamped, made, path_after, nodes_from, nodes, node_strings}
 use Rattle.format.specs.declared.kinds.NodeKind.{NodeKind}
-use Rattle.format.specs.declared.kinds.NodeKind.TheVariants as NodeKind
 use Rattle.laws.proofs.Tests.{by-test}
 use Rattle.laws.proofs.Runs.{run_length, past_run-drop}
 use Rattle.tokenizer.specs.Tags.{in_name, classes_of, start_of, tag_of}
@@ -24,7 +23,6 @@ use Rattle.strings.specs.Stores.{separates, one}
 use Rattle.strings.proofs.TextLaws.{decoded-length, collapsed-length, class_string_lem}
 use Rattle.nodes.specs.Tokens.{made_is, token_classes, token_value}
 use Rattle.nodes.specs.declared.inner.tokens.Made.{Made}
-use Rattle.nodes.specs.declared.inner.tokens.Made.TheVariants as Made
 use Rattle.node_laws.specs.Sizes.{top_kind, kinds_after, made_count, made_length, count_from, length_from}
 use Rattle.node_laws.proofs.TreeLaws.{node_strings_append}
 

@@ -15,7 +15,6 @@ use Rattle.format.specs.Rows.{word}
 use Rattle.format.specs.Texts.{bytes_at}
 use Rattle.format.specs.Trees.{Node, kind_word, kind_named, Open, parent_of, kind_of, attached, tag_time, element, stamped, made, entering, path_after, nodes_from, nodes, node_strings, place_words, parent_word, node_words, node_rows, parent_named, kind_numbered, node_of_row, parent_before, parents_first, TreeStands}
 use Rattle.format.specs.declared.kinds.NodeKind.{NodeKind}
-use Rattle.format.specs.declared.kinds.NodeKind.TheVariants as NodeKind
 use Rattle.laws.proofs.Tests.{and_left, and_right, and_both}
 use Rattle.node_laws.proofs.TreeLaws.{leaving_keeps}
 use Rattle.node_laws.proofs.RoomLaws.{room_bound}

@@ -14,11 +14,9 @@ use Rattle.format.specs.Times.{Time, milliseconds, over_hours}
 use Rattle.format.specs.CueText.{Token, string_token, start_tag, end_tag, timestamp_tag}
 use Rattle.format.specs.Trees.{Node, kind_word, kind_named, is_kind, Open, parent_of, kind_of, attached, leaving, tag_time, value_for, element, stamped, made, entering, path_after, nodes_from, time_over, token_over, any_time_over, node_strings}
 use Rattle.format.specs.declared.kinds.NodeKind.{NodeKind}
-use Rattle.format.specs.declared.kinds.NodeKind.TheVariants as NodeKind
 use Rattle.laws.proofs.Tests.{by-test, or_first, or_second}
 use Rattle.nodes.specs.Tokens.{element_made, stamp_made, made_is, token_classes, token_value, left_kind}
 use Rattle.nodes.specs.declared.inner.tokens.Made.{Made}
-use Rattle.nodes.specs.declared.inner.tokens.Made.TheVariants as Made
 use Rattle.node_laws.specs.Sizes.{kinds_of, top_kind, leaving_kinds, after_made, kinds_after, made_count, made_length, count_from, length_from}
 
 -- a kind that a tag names has children

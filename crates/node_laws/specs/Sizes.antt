@@ -4,10 +4,8 @@ use Rattle.std.proofs.Math.Option.{Option, none, some}
 use Rattle.format.specs.CueText.{Token}
 use Rattle.format.specs.Trees.{Open, kind_word, is_kind}
 use Rattle.format.specs.declared.kinds.NodeKind.{NodeKind}
-use Rattle.format.specs.declared.kinds.NodeKind.TheVariants as NodeKind
 use Rattle.nodes.specs.Tokens.{made_is, token_classes, token_value, left_kind}
 use Rattle.nodes.specs.declared.inner.tokens.Made.{Made}
-use Rattle.nodes.specs.declared.inner.tokens.Made.TheVariants as Made
 
 -- the kinds of the open nodes, current first
 unfoldable pub kinds_of : List Open → List NodeKind

@@ -1,7 +1,7 @@
 -- The second pass: what is stored token by token is the defined nodes' rows and strings, and the current node's row names its parent.
 use Prim.Native.Nat.{ℕ, zero, suc, ◌+◌, ◌-◌, ◌≤◌, ◌<◌}
 use mathlib.Core.Path.{◌≡◌, refl, sym, ap, ◌∙◌}
-use mathlib.Core.Bool.{true, false, cond, ◌&&◌, ◌||◌, false≢true}
+use mathlib.Core.Bool.{false, cond, ◌&&◌, ◌||◌, false≢true}
 use mathlib.Core.List.{List, [], ◌∷◌, ◌++◌, append-nil, append_assoc}
 use mathlib.Core.Option.{Option, none, some}
 use native.Mathlib.Numerals.{add-one}
@@ -16,7 +16,6 @@ use Rattle.format.specs.Texts.{is_empty}
 use Rattle.format.specs.CueText.{Token, visit_end, cue_tokens_from, cue_tokens}
 use Rattle.format.specs.Trees.{Node, kind_word, is_kind, Open, parent_of, kind_of, leaving, made, path_after, nodes_from, nodes, token_over, any_time_over, node_strings, place_words, parent_word, node_words, node_rows, node_of_row}
 use Rattle.format.specs.declared.kinds.NodeKind.{NodeKind}
-use Rattle.format.specs.declared.kinds.NodeKind.TheVariants as NodeKind
 use Rattle.laws.proofs.Tests.{by-test, or_first, or_second}
 use Rattle.strings.specs.Stores.{stored, Stores}
 use Rattle.strings.proofs.StoreLaws.{stored-within, ◌then◌}

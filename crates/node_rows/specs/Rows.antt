@@ -5,10 +5,8 @@ use Rattle.format.specs.CueText.{Token}
 use Rattle.format.specs.Limits.{max_text}
 use Rattle.format.specs.Trees.{Node, kind_word, is_kind, parent_word, node_words, parent_named, node_of_row}
 use Rattle.format.specs.declared.kinds.NodeKind.{NodeKind}
-use Rattle.format.specs.declared.kinds.NodeKind.TheVariants as NodeKind
 use Rattle.nodes.specs.Tokens.{token_classes, token_value, left_kind}
 use Rattle.nodes.specs.declared.inner.tokens.Made.{Made}
-use Rattle.nodes.specs.declared.inner.tokens.Made.TheVariants as Made
 use Rattle.strings.specs.Stores.{stored}
 use Rattle.node_rows.specs.declared.inner.filling.Filled.{Filled}
 

@@ -15,16 +15,13 @@ use Rattle.format.specs.CueText.{cue_tokens_from, cue_tokens, visit_end}
 use Rattle.format.specs.Texts.{is_empty, same, bytes_at}
 use Rattle.format.specs.Trees.{kind_word, kind_numbered, kind_named, is_kind, attached, tag_time, token_over, any_time_over, nodes}
 use Rattle.format.specs.declared.kinds.NodeKind.{NodeKind}
-use Rattle.format.specs.declared.kinds.NodeKind.TheVariants as NodeKind
 use Rattle.laws.proofs.Tests.{by-test}
 use Rattle.tokenizer.specs.Tags.{span_bytes, token_is, PartsIn, Marked, TokenAt}
 use Rattle.tokenizer.specs.declared.Token.{Token}
-use Rattle.tokenizer.specs.declared.Token.TheVariants as Token
 use Rattle.tokenizer.proofs.Spans.{wider}
 use Rattle.format.specs.declared.settings.Span.{Span}
 use Rattle.nodes.specs.Tokens.{element_made, stamp_made, made_is, left_kind}
 use Rattle.nodes.specs.declared.inner.tokens.Made.{Made}
-use Rattle.nodes.specs.declared.inner.tokens.Made.TheVariants as Made
 use Rattle.stack.specs.Kinds.{kinds, Holds, Emptied}
 use Rattle.stack.specs.declared.inner.kinds.Stack.{Stack}
 use Rattle.node_laws.specs.Sizes.{kinds_of, top_kind, leaving_kinds, after_made, kinds_after, made_count, made_length, count_from, length_from}

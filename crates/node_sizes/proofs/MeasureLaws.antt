@@ -11,13 +11,11 @@ use Rattle.format.specs.CueText.{string_token, start_tag, end_tag, timestamp_tag
 use Rattle.format.specs.CueText as CueText
 use Rattle.format.specs.Trees.{kind_numbered, is_kind, attached, time_over, token_over, tag_time}
 use Rattle.format.specs.declared.kinds.NodeKind.{NodeKind}
-use Rattle.format.specs.declared.kinds.NodeKind.TheVariants as NodeKind
 use Rattle.laws.proofs.Tests.{by-test}
 use Rattle.tokenizer.specs.Tags.{token_is}
 use Rattle.tokenizer.specs.declared.Token.{Token}
 use Rattle.nodes.specs.Tokens.{element_made, stamp_made, made_is, token_classes, token_value, left_kind}
 use Rattle.nodes.specs.declared.inner.tokens.Made.{Made}
-use Rattle.nodes.specs.declared.inner.tokens.Made.TheVariants as Made
 use Rattle.stack.specs.Kinds.{kinds, top_of, Popped}
 use Rattle.stack.specs.declared.inner.kinds.Stack.{Stack}
 use Rattle.node_laws.specs.Sizes.{top_kind, leaving_kinds, after_made, kinds_after, made_count, made_length}

@@ -3,7 +3,6 @@ use Rattle.std.specs.Prelude.{ℕ, ◌≡◌, true, false, List, length}
 use Rattle.format.specs.CueText.{cue_tokens}
 use Rattle.format.specs.Trees.{nodes, node_strings, any_time_over}
 use Rattle.node_sizes.specs.declared.inner.measuring.Need.{Need}
-use Rattle.node_sizes.specs.declared.inner.measuring.Need.TheVariants as Need
 
 pub record Sized (s : List ℕ) (count used : ℕ) : Type 0 where
   pub within : any_time_over (cue_tokens s) ≡ false

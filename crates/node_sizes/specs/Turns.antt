@@ -13,7 +13,6 @@ use Rattle.stack.specs.declared.inner.kinds.Stack.{Stack}
 use Rattle.node_laws.specs.Sizes.{top_kind, leaving_kinds, kinds_after, made_count, made_length}
 use Rattle.node_sizes.specs.declared.inner.measuring.Measured.{Measured}
 use Rattle.node_sizes.specs.declared.inner.measuring.Turned.{Turned}
-use Rattle.node_sizes.specs.declared.inner.measuring.Turned.TheVariants as Turned
 
 -- the kinds of the open nodes, whose words are on the stack
 abbrev pub opened : Stack → List ℕ → List NodeKind

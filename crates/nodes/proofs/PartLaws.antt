@@ -14,7 +14,6 @@ use Rattle.format.specs.declared.settings.Span.{Span}
 use Rattle.laws.proofs.Tests.{by-test}
 use Rattle.tokenizer.specs.Tags.{classes_of, span_bytes, PartsIn, StartIn}
 use Rattle.tokenizer.specs.declared.Token.{Token}
-use Rattle.tokenizer.specs.declared.Token.TheVariants as Token
 use Rattle.tokenizer.proofs.Spans.{part-first}
 use Rattle.strings.specs.Stores.{separates, one}
 use Rattle.strings.proofs.TextLaws.{classes_of_lem, classes_of-none}

@@ -9,10 +9,8 @@ use Rattle.format.specs.declared.kinds.NodeKind.TheVariants as NodeKind
 use Rattle.laws.proofs.Tests.{by-test}
 use Rattle.values.specs.Times.{stamp_is}
 use Rattle.format.specs.declared.times.Stamp.{Stamp}
-use Rattle.format.specs.declared.times.Stamp.TheVariants as Stamp
 use Rattle.nodes.specs.Tokens.{stamp_made}
 use Rattle.nodes.specs.declared.inner.tokens.Made.{Made}
-use Rattle.nodes.specs.declared.inner.tokens.Made.TheVariants as Made
 
 -- what a tag's time gives, by the answer
 abbrev pub given : Stamp → Made

@@ -5,11 +5,8 @@ use Rattle.format.specs.Times.{Time, milliseconds, over_hours}
 use Rattle.format.specs.CueText.{Token, string_token, start_tag, end_tag, timestamp_tag}
 use Rattle.format.specs.Trees.{kind_named, is_kind, attached, class_string, tag_time, value_for}
 use Rattle.format.specs.declared.kinds.NodeKind.{NodeKind}
-use Rattle.format.specs.declared.kinds.NodeKind.TheVariants as NodeKind
 use Rattle.nodes.specs.declared.kinds.MaybeKind.{MaybeKind}
-use Rattle.nodes.specs.declared.kinds.MaybeKind.TheVariants as MaybeKind
 use Rattle.nodes.specs.declared.inner.tokens.Made.{Made}
-use Rattle.nodes.specs.declared.inner.tokens.Made.TheVariants as Made
 
 abbrev pub kind_is : MaybeKind → Option NodeKind
 kind_is MaybeKind.None = none

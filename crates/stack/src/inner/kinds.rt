@@ -3,7 +3,7 @@
 ghost use Rattle.std.specs.Prelude.{◌≡◌, List, ℕ, ◌*◌, ◌<◌, length};
 ghost use Rattle.stack.specs.Kinds.{kinds, top_of, Holds, Emptied, Pushed, Popped};
 
-#[derive(Drop)]
+#[derive(Clone, Copy)]
 pub struct Stack {
     // How many words are filled.
     pub full: usize,
