@@ -18,7 +18,6 @@ use Rattle.format.specs.Replacing.{replacing_is, replacing, replaced_room, Repla
 use Rattle.format.specs.Requests.{Request, request, asked, lent_text, name_span, lent_entry, lent_row, mending_is, too_long, mending_with}
 use Rattle.format.specs.declared.Mending.TheVariants as Mending
 use Rattle.format.specs.declared.Replacing.{Replacing}
-use Rattle.format.specs.declared.Replacing.TheVariants as Replacing
 use Rattle.laws.proofs.Tests.{and-false}
 use Rattle.laws.proofs.Runs.{run-start}
 use Rattle.laws.proofs.Tokens.{first_at, after_at}

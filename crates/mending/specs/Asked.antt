@@ -6,7 +6,6 @@ use Rattle.format.specs.Converting.{converted_room}
 use Rattle.format.specs.Replacing.{new_file, Replaced}
 use Rattle.format.specs.Requests.{Request, lent_text, lent_row, mending_is, too_long, mending_with}
 use Rattle.format.specs.declared.Mending.{Mending}
-use Rattle.format.specs.declared.Mending.TheVariants as Mending
 use Rattle.format.specs.declared.Replacing.TheVariants as Replacing
 
 -- the answer, the scratch room and the output room after it, and demand 3 where there is a file

@@ -7,18 +7,13 @@ use Rattle.format.specs.declared.settings.Settings.{Settings}
 use Rattle.format.specs.declared.rows.RegionIndex.TheVariants as RegionIndex
 use Rattle.fields.specs.Fields.{number_is, length_is}
 use Rattle.fields.specs.declared.FieldNumber.{FieldNumber}
-use Rattle.fields.specs.declared.FieldNumber.TheVariants as FieldNumber
 use Rattle.fields.specs.declared.FieldLength.{FieldLength}
-use Rattle.fields.specs.declared.FieldLength.TheVariants as FieldLength
 use Rattle.requests.specs.declared.Asking.{Asking}
 use Rattle.requests.specs.declared.Asked.{Asked}
-use Rattle.requests.specs.declared.Asked.TheVariants as Asked
 use Rattle.requests.specs.declared.Numbers.{Numbers}
 use Rattle.requests.specs.declared.NumbersRead.{NumbersRead}
-use Rattle.requests.specs.declared.NumbersRead.TheVariants as NumbersRead
 use Rattle.requests.specs.declared.Lengths.{Lengths}
 use Rattle.requests.specs.declared.LengthsRead.{LengthsRead}
-use Rattle.requests.specs.declared.LengthsRead.TheVariants as LengthsRead
 
 -- the request, the new cue's parts standing one after the other; bad where there is none
 unfoldable pub asked_is : Option Request → Asked

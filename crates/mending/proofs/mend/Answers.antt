@@ -11,7 +11,7 @@ pub returns-then-end-gt-MAX_LINE : goal.returns-then-end-gt-MAX_LINE
 unfolding mending mended_room mended_scratch
 returns-then-end-gt-MAX_LINE c =
     let args = c.args in
-        let done = bad_mended _ args.longer args.scratch.now args.out.now (line_long args.input.now c.past-end.result c.past-end.ensures (omega arith)) in
+    let done = bad_mended _ args.longer args.scratch.now args.out.now (line_long args.input.now c.past-end.result c.past-end.ensures (omega arith)) in
     record {
       answer = done.answer;
       scratch = done.scratched;
@@ -23,7 +23,7 @@ pub returns-then-input-end : goal.returns-then-input-end
 unfolding mending mended_room mended_scratch
 returns-then-input-end c =
     let args = c.args in
-        let done = bad_mended _ args.longer args.scratch.now args.out.now (line_unended args.input.now c.past-end.result c.past-end.ensures (omega arith)) in
+    let done = bad_mended _ args.longer args.scratch.now args.out.now (line_unended args.input.now c.past-end.result c.past-end.ensures (omega arith)) in
     record {
       answer = done.answer;
       scratch = done.scratched;
@@ -36,13 +36,13 @@ slice_bounds-mend_line-end c = sym (length-take-le _ _ (omega arith))
 
 pub mend_line-requires : goal.mend_line-requires
 mend_line-requires c =
-        let input = c.args.input.now in
+    let input = c.args.input.now in
     omega (arith, length-take-le c.past-end.result input (omega arith))
 
 pub returns : goal.returns
 unfolding mending mended_room mended_scratch
 returns c =
-        let end = c.past-end.result in
+    let end = c.past-end.result in
     let args = c.args in
     let input = args.input.now in
     let beyond = end + 1 in

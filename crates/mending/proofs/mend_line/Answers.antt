@@ -21,7 +21,7 @@ asked-for c =
 -- the text that is lent for it
 lent-for : (c : In-Cue) → Lent c.read.new.room (asked-for c).request
 lent-for c =
-            lent c.args.line.now _ c.read.new.room (asked-for c).request (asked-for c).is c.requires refl c.read.ensures.room
+    lent c.args.line.now _ c.read.new.room (asked-for c).request (asked-for c).is c.requires refl c.read.ensures.room
 
 pub returns-in_default : goal.returns-in_default
 returns-in_default c =
@@ -47,19 +47,19 @@ returns-then-raw-gt-MAX_RAW c =
 
 pub slice_bounds-text-end : goal.slice_bounds-text-end
 slice_bounds-text-end c =
-        rw (ap (λ (a : Asking). a.region.to) (asked-for (goal.at.slice_bounds-text-end c).In-Cue).asking) (lent-for (goal.at.slice_bounds-text-end c).In-Cue).inside
+    rw (ap (λ (a : Asking). a.region.to) (asked-for (goal.at.slice_bounds-text-end c).In-Cue).asking) (lent-for (goal.at.slice_bounds-text-end c).In-Cue).inside
 
 pub slice_bounds-replace_cue-end : goal.slice_bounds-replace_cue-end
 slice_bounds-replace_cue-end c =
-        sym (length-take-le _ _ (rw (ap (λ (a : Asking). a.region.to) (asked-for (goal.at.slice_bounds-replace_cue-end c).In-Cue).asking) (lent-for (goal.at.slice_bounds-replace_cue-end c).In-Cue).inside))
+    sym (length-take-le _ _ (rw (ap (λ (a : Asking). a.region.to) (asked-for (goal.at.slice_bounds-replace_cue-end c).In-Cue).asking) (lent-for (goal.at.slice_bounds-replace_cue-end c).In-Cue).inside))
 
 pub returns : goal.returns
 unfolding too_long lent_row
 returns c =
-        let for = asked-for (goal.at.returns c).In-Cue in
+    let for = asked-for (goal.at.returns c).In-Cue in
     let args = c.args in
     let text = c.read.new.room in
-                let short : too_long args.raw.now args.longer ≡ false = rw (c.if-longer.false, le-ltb max_mended (length args.raw.now) c.if-raw-gt-MAX_RAW.false) refl in
+    let short : too_long args.raw.now args.longer ≡ false = rw (c.if-longer.false, le-ltb max_mended (length args.raw.now) c.if-raw-gt-MAX_RAW.false) refl in
     replaced_mended args.raw.now args.longer args.scratch.now args.out.now for.request for.is
     c.in-Cue.asking.number (take c.in-Cue.asking.region.to text) c.row.result c.replace_cue.result _ _
     short

@@ -6,10 +6,10 @@ returns-in_default c = rw (sym c.length_in.ensures ∙ c.in_default.is) refl
 
 pub returns-in_default-length_in : goal.returns-in_default-length_in
 returns-in_default-length_in c =
-        rw
+    rw
     (sym c.length_in.ensures ∙ c.in-Of.is, sym c.length_in-2.ensures ∙ c.in_default-length_in.is) refl
 
 pub returns : goal.returns
 returns c =
-            rw
+    rw
     (sym c.length_in.ensures ∙ c.in-Of.is, sym c.length_in-2.ensures ∙ c.in-Of-length_in.is) refl

@@ -7,7 +7,7 @@ use Rattle.requests.proofs.name_of.Goals as goal
 
 pub returns : goal.returns
 returns c =
-        let field = field_of c.args.line.now 5 in
+    let field = field_of c.args.line.now 5 in
     c.part.ensures
     ∙ ap (λ f. bytes_at f c.settings_of-taken.result.region.from c.settings_of-taken.result.region.to) c.nth.ensures
     ∙ ap (λ (t : CueTaken). bytes_at field t.region.from t.region.to) c.settings_of-taken.ensures

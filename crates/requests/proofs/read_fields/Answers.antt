@@ -17,7 +17,7 @@ returns-in-Bad c =
 pub returns-in-Good : goal.returns-in-Good
 returns-in-Good c =
     let args = c.args in
-            let is = numbers_are (fields args.line.now) c.in-Good.numbers (sym c.numbers_of.ensures ∙ c.in-Good.is) in
+    let is = numbers_are (fields args.line.now) c.in-Good.numbers (sym c.numbers_of.ensures ∙ c.in-Good.is) in
     record {
       answer = c.read_rest.ensures.answer ∙ ap asked_is (sym is);
       room = c.read_rest.ensures.room ∙ ap (λ o. room_with 0 (Option-elim o [] lent_text) args.room.now) (sym is);

@@ -25,17 +25,17 @@ returns-then-taken c =
 
 pub asking_of-requires : goal.asking_of-requires
 asking_of-requires c =
-        let read = sym c.lengths_of.ensures ∙ c.in-Good.is in
+    let read = sym c.lengths_of.ensures ∙ c.in-Good.is in
     let line = c.args.line.now in
     omega (arith, asked-fits line c.in-Good.lengths read, ap length c.name_of-name.ensures)
 
 pub returns : goal.returns
 returns c =
-        let l = c.in-Good.lengths in
+    let l = c.in-Good.lengths in
     let read = sym c.lengths_of.ensures ∙ c.in-Good.is in
     let args = c.args in
     let line = args.line.now in
-        let under = ap (λ (t : CueTaken). t.over) (sym c.settings_of-taken.ensures) ∙ c.if-taken.false in
+    let under = ap (λ (t : CueTaken). t.over) (sym c.settings_of-taken.ensures) ∙ c.if-taken.false in
     record {
       answer = ap Asked.Cue
           (c.asking_of.ensures

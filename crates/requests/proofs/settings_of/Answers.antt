@@ -6,4 +6,4 @@ use Rattle.requests.proofs.settings_of.Goals as goal
 
 pub returns : goal.returns
 returns c =
-        c.all_settings.ensures ∙ ap taken_is (whole-field c.nth-field.result.now) ∙ ap (λ f. taken_is (settings_field f)) c.nth-field.ensures
+    c.all_settings.ensures ∙ ap taken_is (whole-field c.nth-field.result.now) ∙ ap (λ f. taken_is (settings_field f)) c.nth-field.ensures
