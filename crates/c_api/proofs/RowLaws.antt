@@ -6,12 +6,8 @@ use mathlib.Core.List.{List, [], ◌∷◌}
 use native.Mathlib.Omega.{arith}
 use lib.ListN.{length, get_or, drop, drop_of_length-le}
 use lib.Seq.{drop-cons}
-use mathlib.Core.Logic.{⊎_elim}
-use types.Run.{OneOf}
-use denote.Enum.Declared.{tag_of}
 use Rattle.format.specs.Answers.{refused, if_accepted, returned}
 use Rattle.format.specs.Parts.{part_answer_is}
-use Rattle.format.specs.contracts.PartAnswer.{the_type}
 use Rattle.format.specs.declared.PartAnswer.{PartAnswer}
 use Rattle.format.specs.declared.PartAnswer.TheVariants as PartAnswer
 use Rattle.format.specs.Replacing.{new_test1}
@@ -71,8 +67,8 @@ unnamed-fails t = by-test (part_plain t most most) (λ y. rw y refl) (λ n. rw n
 
 -- where a part is refused, what is returned with the refusal is told
 pub told-refused :
-    (a : PartAnswer) → OneOf (1 ∷ 2 ∷ []) (tag_of the_type a) → (vs : List ℕ) → if_accepted (part_answer_is a) vs (returned (part_answer_is a)) ≡ returned (part_answer_is a)
+    (a : PartAnswer) → (a ≡ PartAnswer.Part → ⊥) → (vs : List ℕ) → if_accepted (part_answer_is a) vs (returned (part_answer_is a)) ≡ returned (part_answer_is a)
 unfolding part_answer_is if_accepted
-told-refused PartAnswer.Part k vs = absurd (⊎_elim (λ e. omega arith) (λ e. omega arith) k)
+told-refused PartAnswer.Part k vs = absurd (k refl)
 told-refused (PartAnswer.NoSuchCue n) k vs = refl
 told-refused (PartAnswer.NotWritable i) k vs = refl

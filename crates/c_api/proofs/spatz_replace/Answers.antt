@@ -4,11 +4,11 @@ use Rattle.c_api.proofs.spatz_replace.Goals as goal
 pub returns : goal.returns
 returns c =
             let told = rw c.lent_row-lent.ensures at c.replace_cue.ensures in
-    rw (← told.0)
+    rw (← told.answer)
     (record {
       number = c.replacing.ensures.number;
-      scratch = told.1.0;
-      out = told.1.1.0;
+      scratch = told.scratch;
+      out = told.out;
       values = c.replacing.ensures.values;
-      replaced = λ n e. told.1.1.1 n (replacing-accepted c.replace_cue.result n e);
+      replaced = λ n e. told.replaced n (replacing-accepted c.replace_cue.result n e);
     })

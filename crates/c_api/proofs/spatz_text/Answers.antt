@@ -3,10 +3,6 @@ use Rattle.c_api.proofs.spatz_text.Goals as goal
 
 pub returns : goal.returns
 returns c =
-            let at = c.text-place.ensures ∙ ap (λ e. e.text) c.row_at.ensures in
-    let both = at c.tell_place.ensures in
-    rw (c.ask.ensures, at)
-    (record {
-      number = both.0;
-      values = both.1;
-    })
+    let place = c.text-place.ensures ∙ ap (λ e. e.text) c.row_at.ensures in
+    let told = rw (c.ask.ensures, place) at c.tell_place.ensures in
+    record { number = told.number; values = told.values }

@@ -10,7 +10,7 @@ unfolding place_told
 returns-in_default c =
     record {
       number = c.part.ensures.number;
-      values = rw (told-refused c.args.answer c.in_default.in_default-own.keys2 _) c.part.ensures.values;
+      values = rw (told-refused c.args.answer c.in_default.not-Part _) c.part.ensures.values;
     }
 
 pub returns : goal.returns
