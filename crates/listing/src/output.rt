@@ -59,15 +59,13 @@ fn letter_of(b: u8) -> u8 {
 pub(crate) fn field<W: Write>(out: &mut W, bytes: &[u8]) -> io::Result<()> {
     print(out, b"\t")?;
     let mut start = 0;
-    let mut i = 0;
-    while i < bytes.len() {
+    for i in 0..bytes.len() {
         let letter = letter_of(bytes[i]);
         if 0 < letter {
             print(out, &bytes[start..i])?;
             print(out, &[b'\\', letter])?;
             start = i + 1;
         }
-        i += 1;
     }
     print(out, &bytes[start..])
 }
@@ -83,8 +81,7 @@ pub fn part<W: Write>(out: &mut W, text: &[u8], from: u64, to: u64) -> io::Resul
 pub fn word<W: Write>(out: &mut W, words: &[u8], number: u64) -> io::Result<()> {
     let mut left = number;
     let mut start = 0;
-    let mut i = 0;
-    while i < words.len() {
+    for i in 0..words.len() {
         if words[i] == b',' {
             if left == 0 {
                 return print(out, &words[start..i]);
@@ -92,7 +89,6 @@ pub fn word<W: Write>(out: &mut W, words: &[u8], number: u64) -> io::Result<()> 
             left -= 1;
             start = i + 1;
         }
-        i += 1;
     }
     Ok(())
 }
