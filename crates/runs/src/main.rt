@@ -15,14 +15,12 @@ use std::io::Write;
 fn name_start(path: &[u8]) -> usize
     ensures { result ≤ length path.now }
 {
-    let mut i = 0;
-    while i < path.len() {
+    for i in 0..path.len() {
         if path[i] == b'/' {
             return i + 1;
         }
-        i += 1;
     }
-    i
+    path.len()
 }
 
 fn print_name<W: Write>(out: &mut W, path: &[u8]) -> io::Result<()> {

@@ -19,13 +19,11 @@ fn run_line<W: Write>(out: &mut W, kind: u8, line: &[u8]) -> io::Result<()> {
 
 fn run<W: Write>(out: &mut W, kind: u8, input: &[u8]) -> io::Result<()> {
     let mut start = 0;
-    let mut i = 0;
-    while i < input.len() {
+    for i in 0..input.len() {
         if input[i] == b'\n' {
             run_line(out, kind, &input[start..i])?;
             start = i + 1;
         }
-        i += 1;
     }
     Ok(())
 }
