@@ -1,7 +1,7 @@
 // Prints what a player would read of a raw file: its styles, regions and cues, a line each, or the refusal.
 #![tactic(auto)]
 
-ghost use Rattle.std.specs.Prelude.{◌≡◌, IfOk, length};
+ghost use Rattle.std.specs.Prelude.{◌≡◌, IfOk, OnErr, length};
 ghost use Rattle.format.specs.Plain.{plain_text};
 ghost use Rattle.format.specs.Lists.{lists};
 ghost use Rattle.format.specs.Rows.{region_rows, style_rows, stored_cues};
@@ -43,6 +43,7 @@ pub fn refuse_more<R: Read, W: Write>(file: &mut R, out: &mut W) -> io::Result<b
 }
 
 // Prints the lines of a plain text. Hands back the number of a refusal to read, for which nothing is printed, and 0 where there is none.
+#[tactic(auto, unfolding(format::specs::Answers::refusal_number, format::specs::Reading::reading_is))]
 fn show_text<W: Write>(
     out: &mut W,
     text: &[u8],
@@ -51,6 +52,7 @@ fn show_text<W: Write>(
     styles: &mut [StyleRow],
 ) -> io::Result<u64>
     ensures number { IfOk result (λ n. n ≡ refusal_number (reading text.now (length cues.old) (length regions.old) (length styles.old))) }
+    ensures err { OnErr result (refusal_number (reading text.now (length cues.old) (length regions.old) (length styles.old)) ≡ 0) }
     ensures cues { cues.new ≡ after_reading (reading text.now (length cues.old) (length regions.old) (length styles.old)) (stored_cues text.now) cues.old }
     ensures regions { regions.new ≡ after_reading (reading text.now (length cues.old) (length regions.old) (length styles.old)) (region_rows (lists text.now).regions) regions.old }
     ensures styles { styles.new ≡ after_reading (reading text.now (length cues.old) (length regions.old) (length styles.old)) (style_rows (lists text.now).styles) styles.old }
@@ -81,6 +83,7 @@ pub(crate) fn show<W: Write>(
     styles: &mut [StyleRow],
 ) -> io::Result<u64>
     ensures number { IfOk result (λ n. n ≡ refusal_number (reading_raw raw.now (length text.old) (length cues.old) (length regions.old) (length styles.old))) }
+    ensures err { OnErr result (refusal_number (reading_raw raw.now (length text.old) (length cues.old) (length regions.old) (length styles.old)) ≡ 0) }
     ensures text { text.new ≡ converted_room raw.now text.old }
     ensures cues { cues.new ≡ after_reading (reading_raw raw.now (length text.old) (length cues.old) (length regions.old) (length styles.old)) (stored_cues (plain_text raw.now)) cues.old }
     ensures regions { regions.new ≡ after_reading (reading_raw raw.now (length text.old) (length cues.old) (length regions.old) (length styles.old)) (region_rows (lists (plain_text raw.now)).regions) regions.old }

@@ -1,5 +1,5 @@
 // Prints the nodes of a cue text, a line each, or the refusal.
-ghost use Rattle.std.specs.Prelude.{◌≡◌, IfOk, length};
+ghost use Rattle.std.specs.Prelude.{◌≡◌, IfOk, OnErr, length};
 ghost use Rattle.format.specs.Answers.{refusal_number};
 ghost use Rattle.format.specs.Trees.{treeing, tree_room, tree_table};
 
@@ -18,6 +18,7 @@ pub(crate) fn show<W: Write>(
     nodes: &mut [NodeRow],
 ) -> io::Result<u64>
     ensures number { IfOk result (λ n. n ≡ refusal_number (treeing text.now (length room.old) (length nodes.old))) }
+    ensures err { OnErr result (refusal_number (treeing text.now (length room.old) (length nodes.old)) ≡ 0) }
     ensures room { room.new ≡ tree_room text.now room.old (length nodes.old) }
     ensures nodes { nodes.new ≡ tree_table text.now (length room.old) nodes.old }
 {
