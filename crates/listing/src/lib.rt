@@ -1,7 +1,7 @@
 // Prints what a player would read of a raw file: its styles, regions and cues, a line each, or the refusal.
 #![tactic(auto)]
 
-ghost use Rattle.std.specs.Prelude.{◌≡◌, IfOk, OnErr, length};
+ghost use Rattle.std.specs.Prelude.{◌≡◌, IfOk, IfSome, OnErr, length, nat_lt};
 ghost use Rattle.format.specs.Plain.{plain_text};
 ghost use Rattle.format.specs.Lists.{lists};
 ghost use Rattle.format.specs.Rows.{region_rows, style_rows, stored_cues};
@@ -34,7 +34,9 @@ pub fn refuse<W: Write>(out: &mut W, number: u64) -> io::Result<()> {
 }
 
 // Is there more in an open file than was read of it. Then it is refused by 1.
-pub fn refuse_more<R: Read, W: Write>(file: &mut R, out: &mut W) -> io::Result<bool> {
+pub fn refuse_more<R: Read, W: Write>(file: &mut R, out: &mut W) -> io::Result<bool>
+    ensures { IfOk result (λ more. IfSome (R.remaining file.old) (λ bytes. more ≡ nat_lt 0 (length bytes))) }
+{
     if !input::has_more(file)? {
         return Ok(false);
     }
