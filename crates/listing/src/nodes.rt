@@ -11,6 +11,7 @@ use std::io::{Read, Write};
 
 // Prints the lines of a cue text. The strings of its nodes go to `room`, and their rows to the table. Hands back the number of a refusal, for
 // which nothing is printed, and 0 where there is none.
+#[tactic(auto, unfolding(format::specs::Answers::refusal_number, format::specs::Trees::tree_is))]
 pub(crate) fn show<W: Write>(
     out: &mut W,
     text: &[u8],
