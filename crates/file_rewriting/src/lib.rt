@@ -1,30 +1,33 @@
-// An open file rewritten, and the answer printed on standard output. It is proved that any input is taken, and that it ends inside its
-// memory; what is printed is run and compared.
+// An open file rewritten, and the answer printed. It is proved that any input is taken, and that it ends inside its memory; what is printed
+// is run and compared.
 #![tactic(auto)]
 
 use format::Rewriting;
 use format::rows::{CueRow, RegionRow, StyleRow};
-use libc::STDOUT_FILENO;
+use listing::input;
+use std::io;
+use std::io::{Read, Write};
 use values::bytes::part;
 
-// Prints the written form of what an open file reads as, or the line of the refusal. More input than `raw` holds is refusal 1.
-pub fn rewrite_file(
-    file: i32,
+// Prints the written form of what an open file reads as, or the line of the refusal. More input than `raw` holds is refusal 1. The written
+// form goes to `room`.
+pub fn rewrite_file<R: Read, W: Write>(
+    file: &mut R,
+    out: &mut W,
     raw: &mut [u8],
     text: &mut [u8],
     cues: &mut [CueRow],
     regions: &mut [RegionRow],
     styles: &mut [StyleRow],
-    out: &mut [u8],
-) {
-    let n = io::read_full(file, raw);
-    if listing::refuse_more(file) {
-        return;
+    room: &mut [u8],
+) -> io::Result<()> {
+    let n = input::fill(file, raw)?;
+    if listing::refuse_more(file, out)? {
+        return Ok(());
     }
-    let answer = rewriting::rewrite(&raw[..n], text, cues, regions, styles, out);
+    let answer = rewriting::rewrite(&raw[..n], text, cues, regions, styles, room);
     let Rewriting::File(length) = answer else {
-        listing::refuse(answers::rewriting_number(answer));
-        return;
+        return listing::refuse(out, answers::rewriting_number(answer));
     };
-    io::write_all(STDOUT_FILENO, part(out, 0, length));
+    out.write_all(part(room, 0, length))
 }

@@ -2,20 +2,21 @@
 #![tactic(auto)]
 
 use format::rows::*;
-use libc::STDIN_FILENO;
+use std::io;
 
-fn main() {
+fn main(rt: HostRuntime) -> io::Result<()> {
     let mut raw = [0u8; 16384];
     let mut text = [0u8; 49152];
     let mut cues = [[0u64; CUE_WORDS]; 1024];
     let mut regions = [[0u64; REGION_WORDS]; 1024];
     let mut styles = [[0u64; STYLE_WORDS]; 1024];
     listing::show_file(
-        STDIN_FILENO,
+        &mut rt.stdin(),
+        &mut rt.stdout(),
         &mut raw,
         &mut text,
         &mut cues,
         &mut regions,
         &mut styles,
-    );
+    )
 }

@@ -1,7 +1,7 @@
-// Prints on standard output what a player would read of a raw file: its styles, regions and cues, a line each, or the refusal.
+// Prints what a player would read of a raw file: its styles, regions and cues, a line each, or the refusal.
 #![tactic(auto)]
 
-ghost use Rattle.std.specs.Prelude.{◌≡◌, length};
+ghost use Rattle.std.specs.Prelude.{◌≡◌, IfOk, IfSome, OnErr, length, nat_lt};
 ghost use Rattle.format.specs.Plain.{plain_text};
 ghost use Rattle.format.specs.Lists.{lists};
 ghost use Rattle.format.specs.Rows.{region_rows, style_rows, stored_cues};
@@ -11,8 +11,12 @@ ghost use Rattle.format.specs.Reading.{reading, reading_raw, after_reading};
 
 use format::rows::{CueRow, RegionRow, StyleRow};
 use format::{Converted, Reading};
+use std::io;
+use std::io::{Read, Write};
 
 mod cue_lines;
+pub mod files;
+pub mod input;
 mod node_lines;
 pub mod nodes;
 pub mod output;
@@ -20,33 +24,37 @@ mod region_lines;
 mod style_lines;
 
 // The line of a refusal; none for 0, which is no refusal's number.
-pub fn refuse(number: u64) {
+pub fn refuse<W: Write>(out: &mut W, number: u64) -> io::Result<()> {
     if number == 0 {
-        return;
+        return Ok(());
     }
-    output::print(b"refused");
-    output::number(number);
-    output::print(b"\n");
+    output::print(out, b"refused")?;
+    output::number(out, number)?;
+    output::print(out, b"\n")
 }
 
 // Is there more in an open file than was read of it. Then it is refused by 1.
-pub fn refuse_more(file: i32) -> bool {
-    let mut more = [0u8; 1];
-    if io::read_full(file, &mut more) == 0 {
-        return false;
+pub fn refuse_more<R: Read, W: Write>(file: &mut R, out: &mut W) -> io::Result<bool>
+    ensures { IfOk result (λ more. IfSome (R.remaining file.old) (λ bytes. more ≡ nat_lt 0 (length bytes))) }
+{
+    if !input::has_more(file)? {
+        return Ok(false);
     }
-    refuse(1);
-    true
+    refuse(out, 1)?;
+    Ok(true)
 }
 
 // Prints the lines of a plain text. Hands back the number of a refusal to read, for which nothing is printed, and 0 where there is none.
-fn show_text(
+#[tactic(auto, unfolding(format::specs::Answers::refusal_number, format::specs::Reading::reading_is))]
+fn show_text<W: Write>(
+    out: &mut W,
     text: &[u8],
     cues: &mut [CueRow],
     regions: &mut [RegionRow],
     styles: &mut [StyleRow],
-) -> u64
-    ensures number { result ≡ refusal_number (reading text.now (length cues.old) (length regions.old) (length styles.old)) }
+) -> io::Result<u64>
+    ensures number { IfOk result (λ n. n ≡ refusal_number (reading text.now (length cues.old) (length regions.old) (length styles.old))) }
+    ensures err { OnErr result (refusal_number (reading text.now (length cues.old) (length regions.old) (length styles.old)) ≡ 0) }
     ensures cues { cues.new ≡ after_reading (reading text.now (length cues.old) (length regions.old) (length styles.old)) (stored_cues text.now) cues.old }
     ensures regions { regions.new ≡ after_reading (reading text.now (length cues.old) (length regions.old) (length styles.old)) (region_rows (lists text.now).regions) regions.old }
     ensures styles { styles.new ≡ after_reading (reading text.now (length cues.old) (length regions.old) (length styles.old)) (style_rows (lists text.now).styles) styles.old }
@@ -58,48 +66,52 @@ fn show_text(
         styles: s,
     } = answer
     else {
-        return answers::reading_number(answer);
+        return Ok(answers::reading_number(answer));
     };
-    style_lines::print_all(text, styles, s);
-    region_lines::print_all(text, regions, r);
-    cue_lines::print_all(text, cues, c);
-    0
+    style_lines::print_all(out, text, styles, s)?;
+    region_lines::print_all(out, text, regions, r)?;
+    cue_lines::print_all(out, text, cues, c)?;
+    Ok(0)
 }
 
 // Prints the lines of a raw file. Its plain text goes to `text`, and the lists to the tables. Hands back the number of the first refusal of
 // converting and reading, for which nothing is printed, and 0 where there is none.
-pub(crate) fn show(
+pub(crate) fn show<W: Write>(
+    out: &mut W,
     raw: &[u8],
     text: &mut [u8],
     cues: &mut [CueRow],
     regions: &mut [RegionRow],
     styles: &mut [StyleRow],
-) -> u64
-    ensures number { result ≡ refusal_number (reading_raw raw.now (length text.old) (length cues.old) (length regions.old) (length styles.old)) }
+) -> io::Result<u64>
+    ensures number { IfOk result (λ n. n ≡ refusal_number (reading_raw raw.now (length text.old) (length cues.old) (length regions.old) (length styles.old))) }
+    ensures err { OnErr result (refusal_number (reading_raw raw.now (length text.old) (length cues.old) (length regions.old) (length styles.old)) ≡ 0) }
     ensures text { text.new ≡ converted_room raw.now text.old }
     ensures cues { cues.new ≡ after_reading (reading_raw raw.now (length text.old) (length cues.old) (length regions.old) (length styles.old)) (stored_cues (plain_text raw.now)) cues.old }
     ensures regions { regions.new ≡ after_reading (reading_raw raw.now (length text.old) (length cues.old) (length regions.old) (length styles.old)) (region_rows (lists (plain_text raw.now)).regions) regions.old }
     ensures styles { styles.new ≡ after_reading (reading_raw raw.now (length text.old) (length cues.old) (length regions.old) (length styles.old)) (style_rows (lists (plain_text raw.now)).styles) styles.old }
 {
     match plain::convert(raw, text) {
-        Converted::Text(n) => show_text(&text[..n], cues, regions, styles),
-        Converted::TooLong => 1,
-        Converted::RoomTooShort(_) => 2,
+        Converted::Text(n) => show_text(out, &text[..n], cues, regions, styles),
+        Converted::TooLong => Ok(1),
+        Converted::RoomTooShort(_) => Ok(2),
     }
 }
 
 // Prints the lines of an open file, read into `raw`, or the line of the refusal. More input than `raw` holds is refusal 1.
-pub fn show_file(
-    file: i32,
+pub fn show_file<R: Read, W: Write>(
+    file: &mut R,
+    out: &mut W,
     raw: &mut [u8],
     text: &mut [u8],
     cues: &mut [CueRow],
     regions: &mut [RegionRow],
     styles: &mut [StyleRow],
-) {
-    let n = io::read_full(file, raw);
-    if refuse_more(file) {
-        return;
+) -> io::Result<()> {
+    let n = input::fill(file, raw)?;
+    if refuse_more(file, out)? {
+        return Ok(());
     }
-    refuse(show(&raw[..n], text, cues, regions, styles));
+    let number = show(out, &raw[..n], text, cues, regions, styles)?;
+    refuse(out, number)
 }

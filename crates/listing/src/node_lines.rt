@@ -4,36 +4,42 @@ use format::rows::{
     NODE_CLASSES_FROM, NODE_CLASSES_TO, NODE_KIND, NODE_PARENT, NODE_TIME, NODE_VALUE_FROM,
     NODE_VALUE_TO, NodeRow,
 };
+use std::io;
+use std::io::Write;
 
 // The word of a timestamp, the one kind whose value is a number.
 const TIMESTAMP: u64 = 9;
 
-fn print_value(room: &[u8], row: NodeRow) {
+fn print_value<W: Write>(out: &mut W, room: &[u8], row: NodeRow) -> io::Result<()> {
     if row[NODE_KIND] == TIMESTAMP {
-        output::number(row[NODE_TIME]);
-        return;
+        return output::number(out, row[NODE_TIME]);
     }
-    output::part(room, row[NODE_VALUE_FROM], row[NODE_VALUE_TO]);
+    output::part(out, room, row[NODE_VALUE_FROM], row[NODE_VALUE_TO])
 }
 
-fn print_row(room: &[u8], number: usize, row: NodeRow) {
-    output::digits(number as u64);
+fn print_row<W: Write>(out: &mut W, room: &[u8], number: usize, row: NodeRow) -> io::Result<()> {
+    output::digits(out, number as u64)?;
     output::choice(
+        out,
         b"class,italic,bold,underline,ruby,ruby-text,voice,language,string,timestamp,",
         row[NODE_KIND],
-    );
-    output::index(row[NODE_PARENT], b"\t-");
-    output::part(room, row[NODE_CLASSES_FROM], row[NODE_CLASSES_TO]);
-    print_value(room, row);
-    output::print(b"\n");
+    )?;
+    output::index(out, row[NODE_PARENT], b"\t-")?;
+    output::part(out, room, row[NODE_CLASSES_FROM], row[NODE_CLASSES_TO])?;
+    print_value(out, room, row)?;
+    output::print(out, b"\n")
 }
 
 // The first `count` rows, a line each; all where there are fewer.
-pub(crate) fn print_all(room: &[u8], nodes: &[NodeRow], count: usize) {
+pub(crate) fn print_all<W: Write>(
+    out: &mut W,
+    room: &[u8],
+    nodes: &[NodeRow],
+    count: usize,
+) -> io::Result<()> {
     let end = values::least(count, nodes.len());
-    let mut i = 0;
-    while i < end {
-        print_row(room, i, nodes[i]);
-        i += 1;
+    for i in 0..end {
+        print_row(out, room, i, nodes[i])?;
     }
+    Ok(())
 }

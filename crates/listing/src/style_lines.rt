@@ -1,17 +1,26 @@
 // The lines of the style texts.
 use super::output;
 use format::rows::*;
+use std::io;
+use std::io::Write;
+
+fn print_row<W: Write>(out: &mut W, text: &[u8], number: usize, row: StyleRow) -> io::Result<()> {
+    output::print(out, b"style")?;
+    output::number(out, number as u64)?;
+    output::part(out, text, row[STYLE_FROM], row[STYLE_TO])?;
+    output::print(out, b"\n")
+}
 
 // The first `count` rows, a line each; all where there are fewer.
-pub(crate) fn print_all(text: &[u8], styles: &[StyleRow], count: usize) {
+pub(crate) fn print_all<W: Write>(
+    out: &mut W,
+    text: &[u8],
+    styles: &[StyleRow],
+    count: usize,
+) -> io::Result<()> {
     let end = values::least(count, styles.len());
-    let mut i = 0;
-    while i < end {
-        let row = styles[i];
-        output::print(b"style");
-        output::number(i as u64);
-        output::part(text, row[STYLE_FROM], row[STYLE_TO]);
-        output::print(b"\n");
-        i += 1;
+    for i in 0..end {
+        print_row(out, text, i, styles[i])?;
     }
+    Ok(())
 }

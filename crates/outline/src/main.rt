@@ -2,11 +2,17 @@
 #![tactic(auto)]
 
 use format::rows::NODE_WORDS;
-use libc::STDIN_FILENO;
+use std::io;
 
-fn main() {
+fn main(rt: HostRuntime) -> io::Result<()> {
     let mut raw = [0u8; 16384];
     let mut room = [0u8; 16384];
     let mut nodes = [[0u64; NODE_WORDS]; 4096];
-    listing::nodes::show_file(STDIN_FILENO, &mut raw, &mut room, &mut nodes);
+    listing::nodes::show_file(
+        &mut rt.stdin(),
+        &mut rt.stdout(),
+        &mut raw,
+        &mut room,
+        &mut nodes,
+    )
 }

@@ -5,52 +5,67 @@ mod jobs;
 
 ghost use Rattle.std.specs.Prelude.{◌≤◌, length};
 
-use libc::STDOUT_FILENO;
+use listing::files;
+use std::env::Env;
+use std::fs::Files;
+use std::io;
+use std::io::Write;
 
 // Where the name begins, after the folder and its slash.
 fn name_start(path: &[u8]) -> usize
     ensures { result ≤ length path.now }
 {
-    let mut i = 0;
-    while i < path.len() {
+    for i in 0..path.len() {
         if path[i] == b'/' {
             return i + 1;
         }
-        i += 1;
     }
-    i
+    path.len()
 }
 
-fn print_name(path: &[u8]) {
+fn print_name<W: Write>(out: &mut W, path: &[u8]) -> io::Result<()> {
     let start = name_start(path);
-    io::write_all(STDOUT_FILENO, b"file\t");
-    io::write_all(STDOUT_FILENO, &path[start..]);
-    io::write_all(STDOUT_FILENO, b"\n");
+    out.write_all(b"file\t")?;
+    out.write_all(&path[start..])?;
+    out.write_all(b"\n")
 }
 
-fn run_path(path: &[u8]) {
-    print_name(path);
-    let file = os::open_read(path);
-    if file < 0 {
-        os::fail(path);
-        return;
+fn run_path<R: Files, W: Write, E: Write>(
+    rt: &R,
+    out: &mut W,
+    err: &mut E,
+    path: &[u8],
+) -> io::Result<()> {
+    print_name(out, path)?;
+    match files::open(rt, path) {
+        Ok(mut file) => jobs::run(path, &mut file, out),
+        Err(why) => files::fail(err, path, why),
     }
-    jobs::run(path, file);
-    libc::close(file);
 }
 
-fn run_argument(i: usize) {
+// Is there an argument of this number. What it names is run.
+fn run_argument<R: Files + Env, W: Write, E: Write>(
+    rt: &R,
+    out: &mut W,
+    err: &mut E,
+    i: usize,
+) -> io::Result<bool> {
     let mut path = [0u8; 256];
-    let n = os::arg(i, &mut path);
-    run_path(&path[..n]);
+    let Some(n) = files::argument(rt, i, &mut path) else {
+        return Ok(false);
+    };
+    run_path(rt, out, err, &path[..n])?;
+    Ok(true)
 }
 
 // The first argument is the program's own name.
-fn main() {
-    let count = os::arg_count();
-    let mut i = 1;
-    while i < count {
-        run_argument(i);
-        i += 1;
+fn main(rt: HostRuntime) -> io::Result<()> {
+    let mut out = rt.stdout();
+    let mut err = rt.stderr();
+    for i in 1..usize::MAX {
+        if !run_argument(&rt, &mut out, &mut err, i)? {
+            break;
+        }
     }
+    Ok(())
 }

@@ -4,6 +4,8 @@ ghost use Rattle.std.specs.Prelude.{◌≤◌, ◌<◌, length};
 
 use format::{Converted, Plainness};
 use listing::output;
+use std::io;
+use std::io::Write;
 
 // The value of a hexadecimal digit; 0 where it is none, which is so in no vector.
 fn digit(c: u8) -> u8
@@ -21,10 +23,8 @@ fn decode(line: &[u8], raw: &mut [u8]) -> usize
     ensures { result ≤ length raw.new }
 {
     let count = values::least(line.len() / 2, raw.len());
-    let mut n: usize = 0;
-    while n < count {
+    for n in 0..count {
         raw[n] = digit(line[2 * n]) * 16 + digit(line[2 * n + 1]);
-        n += 1;
     }
     count
 }
@@ -38,48 +38,47 @@ fn hex_digit(n: u8) -> u8
     b'A' + (n - 10)
 }
 
-fn print_hex(bytes: &[u8]) {
-    let mut i = 0;
-    while i < bytes.len() {
-        let b = bytes[i];
-        let pair = [hex_digit(b / 16), hex_digit(b % 16)];
-        output::print(&pair);
-        i += 1;
+fn print_hex<W: Write>(out: &mut W, bytes: &[u8]) -> io::Result<()> {
+    for b in bytes {
+        let pair = [hex_digit(*b / 16), hex_digit(*b % 16)];
+        output::print(out, &pair)?;
     }
+    Ok(())
 }
 
-fn print_place(raw: &[u8]) {
+fn print_place<W: Write>(out: &mut W, raw: &[u8]) -> io::Result<()> {
     match plain::first_not_plain(raw) {
-        Plainness::Plain => output::print(b"\tplain\n"),
+        Plainness::Plain => output::print(out, b"\tplain\n"),
         Plainness::NotPlainAt(at) => {
-            output::number(at as u64);
-            output::print(b"\n");
+            output::number(out, at as u64)?;
+            output::print(out, b"\n")
         }
     }
 }
 
-fn print_text(raw: &[u8]) {
+fn print_text<W: Write>(out: &mut W, raw: &[u8]) -> io::Result<()> {
     let mut room = [0u8; 192];
     match plain::convert(raw, &mut room) {
         Converted::Text(n) => {
             if n <= room.len() {
-                print_hex(&room[..n]);
+                return print_hex(out, &room[..n]);
             }
+            Ok(())
         }
-        Converted::TooLong => output::print(b"refused 1"),
-        Converted::RoomTooShort(_) => output::print(b"refused 2"),
+        Converted::TooLong => output::print(out, b"refused 1"),
+        Converted::RoomTooShort(_) => output::print(out, b"refused 2"),
     }
 }
 
-fn report(raw: &[u8]) {
-    print_hex(raw);
-    output::print(b"\t");
-    print_text(raw);
-    print_place(raw);
+fn report<W: Write>(out: &mut W, raw: &[u8]) -> io::Result<()> {
+    print_hex(out, raw)?;
+    output::print(out, b"\t")?;
+    print_text(out, raw)?;
+    print_place(out, raw)
 }
 
-pub(crate) fn run(line: &[u8]) {
+pub(crate) fn run<W: Write>(out: &mut W, line: &[u8]) -> io::Result<()> {
     let mut raw = [0u8; 64];
     let n = decode(line, &mut raw);
-    report(&raw[..n]);
+    report(out, &raw[..n])
 }

@@ -6,6 +6,8 @@ use format::rows::*;
 use format::settings::{Settings, Span};
 use format::times::{Stamp, Timing, TimingLine};
 use listing::output;
+use std::io;
+use std::io::Write;
 use values::numbers::{LineCount, LineNumber, Percentage};
 
 // Codes of what was found in a text: no number, one above its limit, a number from 0 on, one below 0.
@@ -17,124 +19,130 @@ const FOUND: u64 = 2;
 
 const BELOW: u64 = 3;
 
-fn print_found(code: u64, n: u64) {
-    output::word(b"fails,over,,-,", code);
+fn print_found<W: Write>(out: &mut W, code: u64, n: u64) -> io::Result<()> {
+    output::word(out, b"fails,over,,-,", code)?;
     if FOUND <= code {
-        output::digits(n);
+        return output::digits(out, n);
     }
+    Ok(())
 }
 
-fn print_percentage(text: &[u8]) {
+fn print_percentage<W: Write>(out: &mut W, text: &[u8]) -> io::Result<()> {
     match values::numbers::read_percentage(text) {
-        Percentage::Bad => print_found(FAILS, 0),
-        Percentage::Good(n) => print_found(FOUND, n),
+        Percentage::Bad => print_found(out, FAILS, 0),
+        Percentage::Good(n) => print_found(out, FOUND, n),
     }
 }
 
-fn print_line_number(text: &[u8]) {
+fn print_line_number<W: Write>(out: &mut W, text: &[u8]) -> io::Result<()> {
     match values::numbers::read_line_number(text) {
-        LineNumber::Bad => print_found(FAILS, 0),
-        LineNumber::Over => print_found(OVER, 0),
+        LineNumber::Bad => print_found(out, FAILS, 0),
+        LineNumber::Over => print_found(out, OVER, 0),
         LineNumber::Good {
             negative,
             millionths,
         } => {
             if negative {
-                print_found(BELOW, millionths);
+                print_found(out, BELOW, millionths)
             } else {
-                print_found(FOUND, millionths);
+                print_found(out, FOUND, millionths)
             }
         }
     }
 }
 
-fn print_line_count(text: &[u8]) {
+fn print_line_count<W: Write>(out: &mut W, text: &[u8]) -> io::Result<()> {
     match values::numbers::read_line_count(text) {
-        LineCount::Bad => print_found(FAILS, 0),
-        LineCount::Over => print_found(OVER, 0),
-        LineCount::Good(n) => print_found(FOUND, n),
+        LineCount::Bad => print_found(out, FAILS, 0),
+        LineCount::Over => print_found(out, OVER, 0),
+        LineCount::Good(n) => print_found(out, FOUND, n),
     }
 }
 
-fn print_labelled(label: &[u8], n: u64) {
-    output::print(label);
-    output::digits(n);
+fn print_labelled<W: Write>(out: &mut W, label: &[u8], n: u64) -> io::Result<()> {
+    output::print(out, label)?;
+    output::digits(out, n)
 }
 
 // The step that failed, and where; false where none did.
-fn print_failed(told: [u64; 8]) -> bool {
+fn print_failed<W: Write>(out: &mut W, told: [u64; 8]) -> io::Result<bool> {
     if told[0] == 0 {
-        return false;
+        return Ok(false);
     }
-    print_found(FAILS, 0);
-    print_labelled(b" ", told[0]);
-    print_labelled(b" ", told[1]);
-    true
+    print_found(out, FAILS, 0)?;
+    print_labelled(out, b" ", told[0])?;
+    print_labelled(out, b" ", told[1])?;
+    Ok(true)
 }
 
-fn print_time(read: Stamp) {
+fn print_time<W: Write>(out: &mut W, read: Stamp) -> io::Result<()> {
     let mut told = [0u64; 8];
     if answers::time(read, &mut told) == 5 {
-        print_found(OVER, 0);
-        return;
+        return print_found(out, OVER, 0);
     }
-    if print_failed(told) {
-        return;
+    if print_failed(out, told)? {
+        return Ok(());
     }
-    output::digits(told[2]);
-    print_labelled(b" ", told[1]);
+    output::digits(out, told[2])?;
+    print_labelled(out, b" ", told[1])
 }
 
-fn print_part(text: &[u8], part: Span) {
+fn print_part<W: Write>(out: &mut W, text: &[u8], part: Span) -> io::Result<()> {
     let from = part.from;
     let to = part.to;
     if from <= to {
         if to <= text.len() {
-            output::print(&text[from..to]);
+            return output::print(out, &text[from..to]);
         }
     }
+    Ok(())
 }
 
 // A choice whose first word carries no number.
-fn print_choice(words: &[u8], code: u64, n: u64) {
-    output::word(words, code);
+fn print_choice<W: Write>(out: &mut W, words: &[u8], code: u64, n: u64) -> io::Result<()> {
+    output::word(out, words, code)?;
     if 0 < code {
-        output::digits(n);
+        return output::digits(out, n);
     }
+    Ok(())
 }
 
-fn print_line(row: CueRow) {
+fn print_line<W: Write>(out: &mut W, row: CueRow) -> io::Result<()> {
     print_choice(
+        out,
         b" line auto, line , line -,",
         row[CUE_LINE],
         row[CUE_LINE_NUMBER],
-    );
-    output::word(b" snap,,", row[CUE_SNAP]);
-    output::word(b" start, center, end,", row[CUE_LINE_ALIGN]);
+    )?;
+    output::word(out, b" snap,,", row[CUE_SNAP])?;
+    output::word(out, b" start, center, end,", row[CUE_LINE_ALIGN])
 }
 
-fn print_position(row: CueRow) {
+fn print_position<W: Write>(out: &mut W, row: CueRow) -> io::Result<()> {
     print_choice(
+        out,
         b" position auto, position ,",
         row[CUE_POSITION],
         row[CUE_POSITION_NUMBER],
-    );
+    )?;
     output::word(
+        out,
         b" auto, line-left, center, line-right,",
         row[CUE_POSITION_ALIGN],
-    );
+    )
 }
 
 // The choices of a cue's row.
-fn print_cue_row(row: CueRow) {
-    output::word(b"horizontal,rl,lr,", row[CUE_VERTICAL]);
-    print_line(row);
-    print_position(row);
-    print_labelled(b" size ", row[CUE_SIZE]);
+fn print_cue_row<W: Write>(out: &mut W, row: CueRow) -> io::Result<()> {
+    output::word(out, b"horizontal,rl,lr,", row[CUE_VERTICAL])?;
+    print_line(out, row)?;
+    print_position(out, row)?;
+    print_labelled(out, b" size ", row[CUE_SIZE])?;
     output::word(
+        out,
         b" align start, align center, align end, align left, align right,",
         row[CUE_ALIGN],
-    );
+    )
 }
 
 // The row of a cue that has these settings, no region and no lines, so that each choice is printed by its code.
@@ -151,99 +159,102 @@ fn row_of(settings: Settings) -> CueRow {
     rows::cue_row(entry, LineSpan::NONE)
 }
 
-fn print_settings(text: &[u8], settings: Settings, region: Span) {
-    print_cue_row(row_of(settings));
-    output::print(b" region ");
-    print_part(text, region);
+fn print_settings<W: Write>(
+    out: &mut W,
+    text: &[u8],
+    settings: Settings,
+    region: Span,
+) -> io::Result<()> {
+    print_cue_row(out, row_of(settings))?;
+    output::print(out, b" region ")?;
+    print_part(out, text, region)
 }
 
-fn print_points(row: RegionRow) {
-    print_labelled(b" anchor ", row[REGION_ANCHOR_X]);
-    print_labelled(b",", row[REGION_ANCHOR_Y]);
-    print_labelled(b" viewport ", row[REGION_VIEWPORT_X]);
-    print_labelled(b",", row[REGION_VIEWPORT_Y]);
+fn print_points<W: Write>(out: &mut W, row: RegionRow) -> io::Result<()> {
+    print_labelled(out, b" anchor ", row[REGION_ANCHOR_X])?;
+    print_labelled(out, b",", row[REGION_ANCHOR_Y])?;
+    print_labelled(out, b" viewport ", row[REGION_VIEWPORT_X])?;
+    print_labelled(out, b",", row[REGION_VIEWPORT_Y])
 }
 
 // The numbers and the choice of a region's row.
-fn print_region_row(row: RegionRow) {
-    print_labelled(b" width ", row[REGION_WIDTH]);
-    print_labelled(b" lines ", row[REGION_LINES]);
-    print_points(row);
-    output::word(b" none, up,", row[REGION_SCROLL]);
+fn print_region_row<W: Write>(out: &mut W, row: RegionRow) -> io::Result<()> {
+    print_labelled(out, b" width ", row[REGION_WIDTH])?;
+    print_labelled(out, b" lines ", row[REGION_LINES])?;
+    print_points(out, row)?;
+    output::word(out, b" none, up,", row[REGION_SCROLL])
 }
 
-fn print_region(text: &[u8], region: Region) {
+fn print_region<W: Write>(out: &mut W, text: &[u8], region: Region) -> io::Result<()> {
     let id = region.id;
-    output::print(b"id ");
-    print_part(text, id);
-    print_region_row(rows::region_row(region));
+    output::print(out, b"id ")?;
+    print_part(out, text, id)?;
+    print_region_row(out, rows::region_row(region))
 }
 
-fn print_timing(text: &[u8], timing: Timing) {
+fn print_timing<W: Write>(out: &mut W, text: &[u8], timing: Timing) -> io::Result<()> {
     let settings = timing.settings;
     let region = timing.region;
-    output::digits(timing.start);
-    print_labelled(b" ", timing.end);
-    print_labelled(b" ", timing.next as u64);
-    output::print(b" ");
-    print_settings(text, settings, region);
+    output::digits(out, timing.start)?;
+    print_labelled(out, b" ", timing.end)?;
+    print_labelled(out, b" ", timing.next as u64)?;
+    output::print(out, b" ")?;
+    print_settings(out, text, settings, region)
 }
 
-fn print_timing_line(text: &[u8]) {
+fn print_timing_line<W: Write>(out: &mut W, text: &[u8]) -> io::Result<()> {
     let read = timing::line_of(text, 0, text.len());
     let mut told = [0u64; 8];
     if answers::timing_line(read, &mut told) == 5 {
-        print_found(OVER, 0);
-        return;
+        return print_found(out, OVER, 0);
     }
-    if print_failed(told) {
-        return;
+    if print_failed(out, told)? {
+        return Ok(());
     }
     if let TimingLine::Good(timing) = read {
-        print_timing(text, timing);
+        return print_timing(out, text, timing);
     }
+    Ok(())
 }
 
-fn print_cue_settings(text: &[u8]) {
+fn print_cue_settings<W: Write>(out: &mut W, text: &[u8]) -> io::Result<()> {
     let taken = cue_settings::all_settings(text, 0, text.len());
     if taken.over {
-        print_found(OVER, 0);
-        return;
+        return print_found(out, OVER, 0);
     }
     let settings = taken.settings;
     let region = taken.region;
-    print_settings(text, settings, region);
+    print_settings(out, text, settings, region)
 }
 
-fn print_region_settings(text: &[u8]) {
+fn print_region_settings<W: Write>(out: &mut W, text: &[u8]) -> io::Result<()> {
     let taken = regions::all_settings(text, 0, text.len());
     if taken.over {
-        print_found(OVER, 0);
-        return;
+        return print_found(out, OVER, 0);
     }
     let region = taken.region;
-    print_region(text, region);
+    print_region(out, text, region)
 }
 
-fn run_kind(kind: u8, text: &[u8]) {
+fn run_kind<W: Write>(out: &mut W, kind: u8, text: &[u8]) -> io::Result<()> {
     match kind {
-        b'T' => print_time(values::read_time(text)),
-        b'G' => print_time(values::read_only_time(text)),
-        b'P' => print_percentage(text),
-        b'N' => print_line_number(text),
-        b'C' => print_line_count(text),
-        b'S' => print_cue_settings(text),
-        b'R' => print_region_settings(text),
-        _ => print_timing_line(text),
+        b'T' => print_time(out, values::read_time(text)),
+        b'G' => print_time(out, values::read_only_time(text)),
+        b'P' => print_percentage(out, text),
+        b'N' => print_line_number(out, text),
+        b'C' => print_line_count(out, text),
+        b'S' => print_cue_settings(out, text),
+        b'R' => print_region_settings(out, text),
+        _ => print_timing_line(out, text),
     }
 }
 
-pub(crate) fn run(line: &[u8]) {
+pub(crate) fn run<W: Write>(out: &mut W, line: &[u8]) -> io::Result<()> {
     if line.len() < 2 {
-        return;
+        return Ok(());
     }
-    output::print(line);
-    output::print(b"\n  ");
-    run_kind(line[0], &line[2..]);
-    output::print(b"\n");
+    output::print(out, line)?;
+    output::print(out, b"\n  ")?;
+    run_kind(out, line[0], &line[2..])?;
+    output::print(out, b"\n")
 }
