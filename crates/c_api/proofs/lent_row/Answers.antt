@@ -13,5 +13,5 @@ returns-then-row-ne-NEW_CUE_WORDS c = rw (ne_eqb (length c.args.row.now) 20 c.if
 pub returns : goal.returns
 unfolding lent_words
 returns c =
-        let w = c.args.row.now in
+    let w = c.args.row.now in
     rw (eq-eqb (length w) 20 c.if-row-ne-NEW_CUE_WORDS.false) (sym (listed w c.if-row-ne-NEW_CUE_WORDS.false))

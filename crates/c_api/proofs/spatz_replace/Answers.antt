@@ -3,7 +3,7 @@ use Rattle.c_api.proofs.spatz_replace.Goals as goal
 
 pub returns : goal.returns
 returns c =
-            let told = rw c.lent_row-lent.ensures at c.replace_cue.ensures in
+    let told = rw c.lent_row-lent.ensures at c.replace_cue.ensures in
     rw (← told.answer)
     (record {
       number = c.replacing.ensures.number;

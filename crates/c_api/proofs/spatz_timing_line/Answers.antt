@@ -6,7 +6,7 @@ use Rattle.c_api.proofs.spatz_timing_line.Goals as goal
 
 pub returns : goal.returns
 returns c =
-        let s = c.args.line.now in
+    let s = c.args.line.now in
     let told = c.line_of.ensures.answer ∙ ap timing_line_told (part-rest s 0 (omega arith)) in
     rw (← told)
     (record {
