@@ -18,10 +18,10 @@ mod cue_lines;
 pub mod files;
 pub mod input;
 mod node_lines;
-pub mod nodes;
 pub mod output;
 mod region_lines;
 mod style_lines;
+pub mod trees;
 
 // The line of a refusal; none for 0, which is no refusal's number.
 pub fn refuse<W: Write>(out: &mut W, number: u64) -> io::Result<()> {

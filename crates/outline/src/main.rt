@@ -8,7 +8,7 @@ fn main(rt: HostRuntime) -> io::Result<()> {
     let mut raw = [0u8; 16384];
     let mut room = [0u8; 16384];
     let mut nodes = [[0u64; NODE_WORDS]; 4096];
-    listing::nodes::show_file(
+    listing::trees::show_file(
         &mut rt.stdin(),
         &mut rt.stdout(),
         &mut raw,

@@ -55,7 +55,7 @@ fn outline<R: Read, W: Write>(file: &mut R, out: &mut W) -> io::Result<()> {
     let mut raw = [0u8; 16384];
     let mut room = [0u8; 16384];
     let mut nodes = [[0u64; NODE_WORDS]; 4096];
-    listing::nodes::show_file(file, out, &mut raw, &mut room, &mut nodes)
+    listing::trees::show_file(file, out, &mut raw, &mut room, &mut nodes)
 }
 
 // Nothing where the path's first letter begins the name of no folder: lists, rewritten, mended, outlined.
