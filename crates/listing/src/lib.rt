@@ -18,7 +18,7 @@ mod cue_lines;
 pub mod files;
 pub mod input;
 mod node_lines;
-pub mod output;
+pub mod printing;
 mod region_lines;
 mod style_lines;
 pub mod trees;
@@ -28,9 +28,9 @@ pub fn refuse<W: Write>(out: &mut W, number: u64) -> io::Result<()> {
     if number == 0 {
         return Ok(());
     }
-    output::print(out, b"refused")?;
-    output::number(out, number)?;
-    output::print(out, b"\n")
+    printing::print(out, b"refused")?;
+    printing::number(out, number)?;
+    printing::print(out, b"\n")
 }
 
 // Is there more in an open file than was read of it. Then it is refused by 1.

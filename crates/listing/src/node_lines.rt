@@ -1,5 +1,5 @@
 // The lines of the nodes.
-use super::output;
+use super::printing;
 use format::rows::{
     NODE_CLASSES_FROM, NODE_CLASSES_TO, NODE_KIND, NODE_PARENT, NODE_TIME, NODE_VALUE_FROM,
     NODE_VALUE_TO, NodeRow,
@@ -12,22 +12,22 @@ const TIMESTAMP: u64 = 9;
 
 fn print_value<W: Write>(out: &mut W, room: &[u8], row: NodeRow) -> io::Result<()> {
     if row[NODE_KIND] == TIMESTAMP {
-        return output::number(out, row[NODE_TIME]);
+        return printing::number(out, row[NODE_TIME]);
     }
-    output::part(out, room, row[NODE_VALUE_FROM], row[NODE_VALUE_TO])
+    printing::part(out, room, row[NODE_VALUE_FROM], row[NODE_VALUE_TO])
 }
 
 fn print_row<W: Write>(out: &mut W, room: &[u8], number: usize, row: NodeRow) -> io::Result<()> {
-    output::digits(out, number as u64)?;
-    output::choice(
+    printing::digits(out, number as u64)?;
+    printing::choice(
         out,
         b"class,italic,bold,underline,ruby,ruby-text,voice,language,string,timestamp,",
         row[NODE_KIND],
     )?;
-    output::index(out, row[NODE_PARENT], b"\t-")?;
-    output::part(out, room, row[NODE_CLASSES_FROM], row[NODE_CLASSES_TO])?;
+    printing::index(out, row[NODE_PARENT], b"\t-")?;
+    printing::part(out, room, row[NODE_CLASSES_FROM], row[NODE_CLASSES_TO])?;
     print_value(out, room, row)?;
-    output::print(out, b"\n")
+    printing::print(out, b"\n")
 }
 
 // The first `count` rows, a line each; all where there are fewer.

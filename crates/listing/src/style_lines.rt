@@ -1,14 +1,14 @@
 // The lines of the style texts.
-use super::output;
+use super::printing;
 use format::rows::*;
 use std::io;
 use std::io::Write;
 
 fn print_row<W: Write>(out: &mut W, text: &[u8], number: usize, row: StyleRow) -> io::Result<()> {
-    output::print(out, b"style")?;
-    output::number(out, number as u64)?;
-    output::part(out, text, row[STYLE_FROM], row[STYLE_TO])?;
-    output::print(out, b"\n")
+    printing::print(out, b"style")?;
+    printing::number(out, number as u64)?;
+    printing::part(out, text, row[STYLE_FROM], row[STYLE_TO])?;
+    printing::print(out, b"\n")
 }
 
 // The first `count` rows, a line each; all where there are fewer.

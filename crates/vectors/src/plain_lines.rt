@@ -3,7 +3,7 @@
 ghost use Rattle.std.specs.Prelude.{◌≤◌, ◌<◌, length};
 
 use format::{Converted, Plainness};
-use listing::output;
+use listing::printing;
 use std::io;
 use std::io::Write;
 
@@ -41,17 +41,17 @@ fn hex_digit(n: u8) -> u8
 fn print_hex<W: Write>(out: &mut W, bytes: &[u8]) -> io::Result<()> {
     for b in bytes {
         let pair = [hex_digit(*b / 16), hex_digit(*b % 16)];
-        output::print(out, &pair)?;
+        printing::print(out, &pair)?;
     }
     Ok(())
 }
 
 fn print_place<W: Write>(out: &mut W, raw: &[u8]) -> io::Result<()> {
     match plain::first_not_plain(raw) {
-        Plainness::Plain => output::print(out, b"\tplain\n"),
+        Plainness::Plain => printing::print(out, b"\tplain\n"),
         Plainness::NotPlainAt(at) => {
-            output::number(out, at as u64)?;
-            output::print(out, b"\n")
+            printing::number(out, at as u64)?;
+            printing::print(out, b"\n")
         }
     }
 }
@@ -65,14 +65,14 @@ fn print_text<W: Write>(out: &mut W, raw: &[u8]) -> io::Result<()> {
             }
             Ok(())
         }
-        Converted::TooLong => output::print(out, b"refused 1"),
-        Converted::RoomTooShort(_) => output::print(out, b"refused 2"),
+        Converted::TooLong => printing::print(out, b"refused 1"),
+        Converted::RoomTooShort(_) => printing::print(out, b"refused 2"),
     }
 }
 
 fn report<W: Write>(out: &mut W, raw: &[u8]) -> io::Result<()> {
     print_hex(out, raw)?;
-    output::print(out, b"\t")?;
+    printing::print(out, b"\t")?;
     print_text(out, raw)?;
     print_place(out, raw)
 }

@@ -5,7 +5,7 @@ use format::regions::Region;
 use format::rows::*;
 use format::settings::{Settings, Span};
 use format::times::{Stamp, Timing, TimingLine};
-use listing::output;
+use listing::printing;
 use std::io;
 use std::io::Write;
 use values::numbers::{LineCount, LineNumber, Percentage};
@@ -20,9 +20,9 @@ const FOUND: u64 = 2;
 const BELOW: u64 = 3;
 
 fn print_found<W: Write>(out: &mut W, code: u64, n: u64) -> io::Result<()> {
-    output::word(out, b"fails,over,,-,", code)?;
+    printing::word(out, b"fails,over,,-,", code)?;
     if FOUND <= code {
-        return output::digits(out, n);
+        return printing::digits(out, n);
     }
     Ok(())
 }
@@ -60,8 +60,8 @@ fn print_line_count<W: Write>(out: &mut W, text: &[u8]) -> io::Result<()> {
 }
 
 fn print_labelled<W: Write>(out: &mut W, label: &[u8], n: u64) -> io::Result<()> {
-    output::print(out, label)?;
-    output::digits(out, n)
+    printing::print(out, label)?;
+    printing::digits(out, n)
 }
 
 // The step that failed, and where; false where none did.
@@ -83,7 +83,7 @@ fn print_time<W: Write>(out: &mut W, read: Stamp) -> io::Result<()> {
     if print_failed(out, told)? {
         return Ok(());
     }
-    output::digits(out, told[2])?;
+    printing::digits(out, told[2])?;
     print_labelled(out, b" ", told[1])
 }
 
@@ -92,7 +92,7 @@ fn print_part<W: Write>(out: &mut W, text: &[u8], part: Span) -> io::Result<()> 
     let to = part.to;
     if from <= to {
         if to <= text.len() {
-            return output::print(out, &text[from..to]);
+            return printing::print(out, &text[from..to]);
         }
     }
     Ok(())
@@ -100,9 +100,9 @@ fn print_part<W: Write>(out: &mut W, text: &[u8], part: Span) -> io::Result<()> 
 
 // A choice whose first word carries no number.
 fn print_choice<W: Write>(out: &mut W, words: &[u8], code: u64, n: u64) -> io::Result<()> {
-    output::word(out, words, code)?;
+    printing::word(out, words, code)?;
     if 0 < code {
-        return output::digits(out, n);
+        return printing::digits(out, n);
     }
     Ok(())
 }
@@ -114,8 +114,8 @@ fn print_line<W: Write>(out: &mut W, row: CueRow) -> io::Result<()> {
         row[CUE_LINE],
         row[CUE_LINE_NUMBER],
     )?;
-    output::word(out, b" snap,,", row[CUE_SNAP])?;
-    output::word(out, b" start, center, end,", row[CUE_LINE_ALIGN])
+    printing::word(out, b" snap,,", row[CUE_SNAP])?;
+    printing::word(out, b" start, center, end,", row[CUE_LINE_ALIGN])
 }
 
 fn print_position<W: Write>(out: &mut W, row: CueRow) -> io::Result<()> {
@@ -125,7 +125,7 @@ fn print_position<W: Write>(out: &mut W, row: CueRow) -> io::Result<()> {
         row[CUE_POSITION],
         row[CUE_POSITION_NUMBER],
     )?;
-    output::word(
+    printing::word(
         out,
         b" auto, line-left, center, line-right,",
         row[CUE_POSITION_ALIGN],
@@ -134,11 +134,11 @@ fn print_position<W: Write>(out: &mut W, row: CueRow) -> io::Result<()> {
 
 // The choices of a cue's row.
 fn print_cue_row<W: Write>(out: &mut W, row: CueRow) -> io::Result<()> {
-    output::word(out, b"horizontal,rl,lr,", row[CUE_VERTICAL])?;
+    printing::word(out, b"horizontal,rl,lr,", row[CUE_VERTICAL])?;
     print_line(out, row)?;
     print_position(out, row)?;
     print_labelled(out, b" size ", row[CUE_SIZE])?;
-    output::word(
+    printing::word(
         out,
         b" align start, align center, align end, align left, align right,",
         row[CUE_ALIGN],
@@ -166,7 +166,7 @@ fn print_settings<W: Write>(
     region: Span,
 ) -> io::Result<()> {
     print_cue_row(out, row_of(settings))?;
-    output::print(out, b" region ")?;
+    printing::print(out, b" region ")?;
     print_part(out, text, region)
 }
 
@@ -182,12 +182,12 @@ fn print_region_row<W: Write>(out: &mut W, row: RegionRow) -> io::Result<()> {
     print_labelled(out, b" width ", row[REGION_WIDTH])?;
     print_labelled(out, b" lines ", row[REGION_LINES])?;
     print_points(out, row)?;
-    output::word(out, b" none, up,", row[REGION_SCROLL])
+    printing::word(out, b" none, up,", row[REGION_SCROLL])
 }
 
 fn print_region<W: Write>(out: &mut W, text: &[u8], region: Region) -> io::Result<()> {
     let id = region.id;
-    output::print(out, b"id ")?;
+    printing::print(out, b"id ")?;
     print_part(out, text, id)?;
     print_region_row(out, rows::region_row(region))
 }
@@ -195,10 +195,10 @@ fn print_region<W: Write>(out: &mut W, text: &[u8], region: Region) -> io::Resul
 fn print_timing<W: Write>(out: &mut W, text: &[u8], timing: Timing) -> io::Result<()> {
     let settings = timing.settings;
     let region = timing.region;
-    output::digits(out, timing.start)?;
+    printing::digits(out, timing.start)?;
     print_labelled(out, b" ", timing.end)?;
     print_labelled(out, b" ", timing.next as u64)?;
-    output::print(out, b" ")?;
+    printing::print(out, b" ")?;
     print_settings(out, text, settings, region)
 }
 
@@ -253,8 +253,8 @@ pub(crate) fn run<W: Write>(out: &mut W, line: &[u8]) -> io::Result<()> {
     if line.len() < 2 {
         return Ok(());
     }
-    output::print(out, line)?;
-    output::print(out, b"\n  ")?;
+    printing::print(out, line)?;
+    printing::print(out, b"\n  ")?;
     run_kind(out, line[0], &line[2..])?;
-    output::print(out, b"\n")
+    printing::print(out, b"\n")
 }

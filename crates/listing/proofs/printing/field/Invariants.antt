@@ -1,5 +1,5 @@
 use Rattle.std.proofs.Common.{◌≤◌}
-use Rattle.listing.proofs.output.field.Given as goal
+use Rattle.listing.proofs.printing.field.Given as goal
 
 -- What was printed ends no later than the byte that is read.
 abbrev pub invariant-loop-i : goal.invariant-loop-i

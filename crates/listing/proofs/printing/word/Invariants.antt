@@ -1,5 +1,5 @@
 use Rattle.std.proofs.Common.{◌≤◌}
-use Rattle.listing.proofs.output.word.Given as goal
+use Rattle.listing.proofs.printing.word.Given as goal
 
 -- The word that is passed begins no later than the byte that is read.
 abbrev pub invariant-loop-i : goal.invariant-loop-i
