@@ -2,6 +2,7 @@
 ghost use Rattle.std.specs.Prelude.{◌≤◌, IfSome, length};
 
 use std::env::{Env, FillError};
+use std::fmt::InlineText;
 use std::fs::{File, Files};
 use std::io;
 use std::io::{ErrorKind, Write};
@@ -26,8 +27,24 @@ pub fn open<R: Files>(rt: &R, name: &[u8]) -> io::Result<R::File> {
     }
 }
 
-// The line that says why a file was not opened.
+// Where the number of an error begins in its text, which says it last; at the end, where it has none.
+fn number_at(text: &[u8]) -> usize
+    ensures { result ≤ length text.now }
+{
+    for i in 0..text.len() {
+        if text[i..].starts_with(b" (os error ") {
+            return i;
+        }
+    }
+    text.len()
+}
+
+// The line that says why a file was not opened, in the system's words.
 pub fn fail<W: Write>(err: &mut W, name: &[u8], why: io::Error) -> io::Result<()> {
+    let text: InlineText<256> = InlineText::of(&why);
+    let words = text.as_str().as_bytes();
     err.write_all(name)?;
-    writeln!(err, ": {why}")
+    err.write_all(b": ")?;
+    err.write_all(&words[..number_at(words)])?;
+    err.write_all(b"\n")
 }
