@@ -1,6 +1,6 @@
 -- A collected block by its places, and what it means. `proofs/BlockLaws.antt` proves that this is what `format` says.
 use Rattle.std.specs.Prelude.{ℕ, ◌+◌, ◌-◌, ◌≤◌, ◌<◌, ◌≡◌, Bool, true, false, cond, List, [], ◌∷◌, eqb, length, take, drop}
-use Rattle.std.proofs.Math.Option.{Option, none, some}
+use Rattle.std.specs.Prelude.{Option, None, Some}
 use Rattle.format.specs.Bytes.{ascii}
 use Rattle.format.specs.Texts.{Part, empty_part}
 use Rattle.format.specs.RegionSettings.{region_settings, region_is}
@@ -32,8 +32,8 @@ abbrev pub after_line_end : List ℕ → ℕ → ℕ → Part
 after_line_end s e to = cond (eqb e to) empty_part (part s (e + 1) to)
 
 abbrev pub cue_with : Part → Part → Option Timing → Item
-cue_with id text none = nothing
-cue_with id text (some t) =
+cue_with id text None = nothing
+cue_with id text (Some t) =
     cue (record { id = id; start = t.start; end = t.end; settings = t.settings; region = t.region; text = text }) t.over
 
 abbrev pub definition_with : Bool → List ℕ → Part → Item

@@ -1,6 +1,6 @@
 // What a block gives that was collected. The functions are for the crates above: they ask for a block that was found in the text.
 ghost use Rattle.std.specs.Prelude.{◌≡◌, true, ◌+◌, ◌≤◌, ◌<◌, length};
-ghost use Rattle.std.proofs.Math.Option.{none};
+ghost use Rattle.std.specs.Prelude.{None};
 ghost use Rattle.format.specs.Lists.{is_word};
 ghost use Rattle.format.specs.TimingLines.{timing_line};
 ghost use Rattle.values.specs.Tokens.{part_of};
@@ -93,7 +93,7 @@ fn definition(s: &[u8], from: usize, first: usize, to: usize, seen: bool) -> Ite
 // Does no timing line stand from one place up to another, as its first byte tells: neither a time begins with it nor whitespace before one.
 fn no_time(s: &[u8], from: usize, to: usize) -> bool
     requires { (from ≤ to) × (to ≤ length s.now) }
-    ensures { result ≡ true → timing_line (part s.now from to) ≡ none }
+    ensures { result ≡ true → timing_line (part s.now from to) ≡ None }
 {
     if from == to {
         return true;

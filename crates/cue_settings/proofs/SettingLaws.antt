@@ -4,7 +4,8 @@ use lib.ListN.{take, drop}
 use mathlib.Core.Path.{◌≡◌, refl, sym, ap}
 use mathlib.Core.Bool.{true, cond, ◌||◌}
 use mathlib.Core.List.{List}
-use mathlib.Core.Option.{Option, none, some, Option-elim}
+use Rattle.std.specs.Prelude.{Option, None, Some}
+use Rattle.std.specs.Option.{option_map_or}
 use Rattle.format.specs.Bytes.{ascii, percent}
 use Rattle.format.specs.Texts.{Part, is_empty, same, ends_with}
 use Rattle.format.specs.Numbers.{percentage, LineNumber, line_number, over_line}
@@ -38,18 +39,18 @@ number_told (Told.Good m n) a = Change.Line (record { line = Line.At m n; snap =
 
 pub number-told : (o : Option LineNumber) (a : LineAlign) → line_counted o a ≡ number_told (line_number_is o) a
 unfolding line_counted
-number-told none a = refl
-number-told (some n) a = by-test (over_line n) (λ y. rw y refl) (λ z. rw z refl)
+number-told None a = refl
+number-told (Some n) a = by-test (over_line n) (λ y. rw y refl) (λ z. rw z refl)
 
 abbrev pub aligned_told : List ℕ → LineAligned → Change
 aligned_told place LineAligned.Bad = Change.Nothing
 aligned_told place (LineAligned.Good a) =
-    cond (ends_with percent place) (Option-elim (percentage place) Change.Nothing (line_at_percentage a)) (line_counted (line_number place) a)
+    cond (ends_with percent place) (option_map_or (line_at_percentage a) (percentage place) Change.Nothing) (line_counted (line_number place) a)
 
 pub aligned_told_lem : (place : List ℕ) (o : Option LineAlign) → line_aligned place o ≡ aligned_told place (line_aligned_is o)
 unfolding line_aligned
-aligned_told_lem place none = refl
-aligned_told_lem place (some a) = refl
+aligned_told_lem place None = refl
+aligned_told_lem place (Some a) = refl
 
 abbrev pub position_told : Percentage → PositionAligned → Change
 position_told Percentage.Bad a = Change.Nothing
@@ -58,16 +59,16 @@ position_told (Percentage.Good n) (PositionAligned.Good a) = Change.Position (re
 
 pub position_told_lem : (o : Option ℕ) (a : Option PositionAlign) → position_aligned o a ≡ position_told (percentage_is o) (position_aligned_is a)
 unfolding position_aligned
-position_told_lem none a = refl
-position_told_lem (some n) none = refl
-position_told_lem (some n) (some a) = refl
+position_told_lem None a = refl
+position_told_lem (Some n) None = refl
+position_told_lem (Some n) (Some a) = refl
 
 abbrev pub name_told : CueName → List ℕ → Settings → Change
 name_told CueName.Region x s = Change.Region
 name_told CueName.Vertical x s = Change.Vertical (direction x s.vertical)
 name_told CueName.Line x s = line_change x s.line.align
 name_told CueName.Position x s = position_change x s.position.align
-name_told CueName.Size x s = Option-elim (percentage x) Change.Nothing Change.Size
+name_told CueName.Size x s = option_map_or Change.Size (percentage x) Change.Nothing
 name_told CueName.Align x s = Change.Align (alignment x s.align)
 name_told CueName.Other x s = Change.Nothing
 

@@ -1,6 +1,6 @@
 // A cue's settings: one token at a time, each as what it changes.
 ghost use Rattle.std.specs.Prelude.{◌≡◌, ◌≤◌, length, drop};
-ghost use Rattle.std.proofs.Math.Option.{Option-elim};
+ghost use Rattle.std.specs.Option.{option_map_or};
 ghost use Rattle.format.specs.CueSettings.{line_at_percentage, line_counted, line_change, position_change, named, cue_settings, span_is};
 ghost use Rattle.format.specs.Bytes.{percent};
 ghost use Rattle.format.specs.Texts.{ends_with};
@@ -30,7 +30,7 @@ fn ends_with_percent(s: &[u8]) -> bool
 }
 
 fn line_percentage(place: &[u8], align: LineAlign) -> Change
-    ensures { result ≡ Option-elim (percentage place.now) Cases.Nothing (line_at_percentage align) }
+    ensures { result ≡ option_map_or (line_at_percentage align) (percentage place.now) Cases.Nothing }
 {
     match values::numbers::read_percentage(place) {
         Percentage::Bad => Change::Nothing,
@@ -99,7 +99,7 @@ fn position_change(value: &[u8], current: PositionAlign) -> Change
 }
 
 fn size_change(value: &[u8]) -> Change
-    ensures { result ≡ Option-elim (percentage value.now) Cases.Nothing Cases.Size }
+    ensures { result ≡ option_map_or Cases.Size (percentage value.now) Cases.Nothing }
 {
     match values::numbers::read_percentage(value) {
         Percentage::Bad => Change::Nothing,

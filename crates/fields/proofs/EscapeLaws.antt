@@ -3,7 +3,8 @@ use Prim.Native.Nat.{ℕ, suc, ◌+◌, ◌≤◌, ◌<◌}
 use mathlib.Core.Path.{Path, ◌≡◌, refl, sym, ap, ◌∙◌}
 use mathlib.Core.Bool.{Bool, true, false}
 use mathlib.Core.List.{List, [], ◌∷◌}
-use mathlib.Core.Option.{Option, none, some, map, Option-elim}
+use Rattle.std.specs.Prelude.{Option, None, Some, option_map}
+use Rattle.std.specs.Option.{option_map_or}
 use native.Mathlib.Numerals.{add-one}
 use native.Mathlib.Omega.{arith}
 use lib.Dec.{eqb}
@@ -20,17 +21,16 @@ use Rattle.fields.specs.declared.FieldLength.TheVariants as FieldLength
 
 -- one byte before what the rest gives
 abbrev pub on_text : ℕ → Option (List ℕ) → Option (List ℕ)
-on_text b o = map (λ x. b ∷ x) o
+on_text b o = option_map (λ x. b ∷ x) o
 
 -- the step that a letter after a backslash makes
 abbrev pub by_letter : ℕ → Escape → FieldStep
 by_letter at Escape.Bad = FieldStep.Bad
 by_letter at (Escape.Byte c) = FieldStep.Byte c (at + 2)
 
-letter_is : (at : ℕ) (t : Option ℕ) → Option-elim t FieldStep.Bad (λ c. FieldStep.Byte c (at + 2)) ≡ by_letter at (escape_is t)
-unfolding Option-elim
-letter_is at none = refl
-letter_is at (some c) = refl
+letter_is : (at : ℕ) (t : Option ℕ) → option_map_or (λ c. FieldStep.Byte c (at + 2)) t FieldStep.Bad ≡ by_letter at (escape_is t)
+letter_is at None = refl
+letter_is at (Some c) = refl
 
 -- a step goes on inside the field
 abbrev pub Moves : List ℕ → ℕ → FieldStep → Type 0
@@ -40,29 +40,28 @@ Moves f at (FieldStep.Byte b next) = (at < next) × (next ≤ length f)
 
 module _ (table : ℕ → Option ℕ) where
   giving-plain : (b : ℕ) (o : Option (List ℕ)) → eqb b backslash ≡ false → giving table false b o ≡ on_text b o
-  unfolding giving Option-elim
-  giving-plain b none e = refl
-  giving-plain b (some x) e = rw e refl
+  unfolding giving
+  giving-plain b None e = refl
+  giving-plain b (Some x) e = rw e refl
 
   giving-opens : (b : ℕ) (o : Option (List ℕ)) → eqb b backslash ≡ true → giving table false b o ≡ o
-  unfolding giving Option-elim
-  giving-opens b none e = refl
-  giving-opens b (some x) e = rw e refl
+  unfolding giving
+  giving-opens b None e = refl
+  giving-opens b (Some x) e = rw e refl
 
-  none_given : (t : Option ℕ) → Path (Option (List ℕ)) none (Option-elim t none (λ c. on_text c none))
-  unfolding Option-elim
-  none_given none = refl
-  none_given (some c) = refl
+  none_given : (t : Option ℕ) → Path (Option (List ℕ)) None (option_map_or (λ c. on_text c None) t None)
+  none_given None = refl
+  none_given (Some c) = refl
 
-  giving-escaped : (b : ℕ) (o : Option (List ℕ)) → giving table true b o ≡ Option-elim (table b) none (λ c. on_text c o)
-  unfolding giving Option-elim
-  giving-escaped b (some x) = refl
-  giving-escaped b none = none_given (table b)
+  giving-escaped : (b : ℕ) (o : Option (List ℕ)) → giving table true b o ≡ option_map_or (λ c. on_text c o) (table b) None
+  unfolding giving
+  giving-escaped b (Some x) = refl
+  giving-escaped b None = none_given (table b)
 
   -- the text that a field stands for, by the step that was made in it
   abbrev pub from_step : List ℕ → FieldStep → Option (List ℕ)
-  from_step f FieldStep.End = some []
-  from_step f FieldStep.Bad = none
+  from_step f FieldStep.End = Some []
+  from_step f FieldStep.Bad = None
   from_step f (FieldStep.Byte b next) = on_text b (unescaped_from table false (drop next f))
 
   module _ (f : List ℕ) (at : ℕ) where
@@ -75,10 +74,9 @@ module _ (table : ℕ → Option ℕ) where
     by_letter_lem :
         (s : List ℕ) (t : Option ℕ)
         → drop (at + 2) f ≡ s
-        → Option-elim t none (λ c. on_text c (unescaped_from table false s)) ≡ from_step f (Option-elim t FieldStep.Bad (λ c. FieldStep.Byte c (at + 2)))
-    unfolding Option-elim
-    by_letter_lem s none e = refl
-    by_letter_lem s (some c) e = rw e refl
+        → option_map_or (λ c. on_text c (unescaped_from table false s)) t None ≡ from_step f (option_map_or (λ c. FieldStep.Byte c (at + 2)) t FieldStep.Bad)
+    by_letter_lem s None e = refl
+    by_letter_lem s (Some c) e = rw e refl
 
     after-backslash : (b : ℕ) (s : List ℕ) → drop at f ≡ b ∷ s → unescaped_from table true s ≡ from_step f (escaped_at table at s)
     unfolding unescaped_from opens
@@ -93,10 +91,9 @@ module _ (table : ℕ → Option ℕ) where
         (λ y. giving-opens b (unescaped_from table (eqb b backslash) s) y ∙ rw y (after-backslash b s e))
         (λ n. giving-plain b (unescaped_from table (eqb b backslash) s) n ∙ rw (n, one_more_lem e) refl)
 
-    letter_moves : (t : Option ℕ) → at + 2 ≤ length f → Moves f at (Option-elim t FieldStep.Bad (λ c. FieldStep.Byte c (at + 2)))
-    unfolding Option-elim
-    letter_moves none h = tt
-    letter_moves (some c) h = (omega arith, h)
+    letter_moves : (t : Option ℕ) → at + 2 ≤ length f → Moves f at (option_map_or (λ c. FieldStep.Byte c (at + 2)) t FieldStep.Bad)
+    letter_moves None h = tt
+    letter_moves (Some c) h = (omega arith, h)
 
     moves_in : (s : List ℕ) → drop at f ≡ s → Moves f at (step_in table at s)
     unfolding step_in
@@ -130,7 +127,7 @@ module _ (table : ℕ → Option ℕ) where
         at + 1 < length f
         → get_or f at 0 ≡ backslash
         → step_in table at (drop at f) ≡ by_letter at (escape_is (table (get_or f (at + 1) 0)))
-    unfolding step_in Option-elim
+    unfolding step_in
     step_letter l e =
         rw
         (drop-cons f at 0 (omega arith), eq-eqb (get_or f at 0) backslash e, add-one at, drop-cons f (suc at) 0 (omega arith))
@@ -147,42 +144,41 @@ module _ (table : ℕ → Option ℕ) where
 
 -- a length counted from the start, and a byte more in it and in the text
 pub length_from_lem : (o : Option (List ℕ)) → length_after 0 o ≡ length_is o
-length_from_lem none = refl
-length_from_lem (some x) = ap FieldLength.Of (omega arith)
+length_from_lem None = refl
+length_from_lem (Some x) = ap FieldLength.Of (omega arith)
 
 pub length_more : (n b : ℕ) (o : Option (List ℕ)) → length_after n (on_text b o) ≡ length_after (n + 1) o
-length_more n b none = refl
-length_more n b (some x) = ap FieldLength.Of (omega arith)
+length_more n b None = refl
+length_more n b (Some x) = ap FieldLength.Of (omega arith)
 
 pub good_more : (b : ℕ) (o : Option (List ℕ)) → is_good (on_text b o) ≡ is_good o
-good_more b none = refl
-good_more b (some x) = refl
+good_more b None = refl
+good_more b (Some x) = refl
 
 pub text-more : (b : ℕ) (o : Option (List ℕ)) → is_good o ≡ true → text_of (on_text b o) ≡ b ∷ text_of o
-text-more b none e = let z : ◌≡◌ {A = ℕ} 0 1 = cc in absurd (omega arith)
-text-more b (some x) e = refl
+text-more b None e = let z : ◌≡◌ {A = ℕ} 0 1 = cc in absurd (omega arith)
+text-more b (Some x) e = refl
 
 -- a field with a length is good, and one without it has no text
 pub length_good : (n : ℕ) (o : Option (List ℕ)) → length_is o ≡ FieldLength.Of n → is_good o ≡ true
-length_good n none e = let z : ◌≡◌ {A = ℕ} 0 1 = cc in absurd (omega arith)
-length_good n (some x) e = refl
+length_good n None e = let z : ◌≡◌ {A = ℕ} 0 1 = cc in absurd (omega arith)
+length_good n (Some x) e = refl
 
 pub length_bad : (o : Option (List ℕ)) → length_is o ≡ FieldLength.Bad → text_of o ≡ []
-length_bad none e = refl
-length_bad (some x) e = let z : ◌≡◌ {A = ℕ} 0 1 = cc in absurd (omega arith)
+length_bad None e = refl
+length_bad (Some x) e = let z : ◌≡◌ {A = ℕ} 0 1 = cc in absurd (omega arith)
 
 -- a text is no longer than the field that stands for it
 module _ (table : ℕ → Option ℕ) where
-  letter_length : (t : Option ℕ) (x : List ℕ) → length (text_of (Option-elim t none (λ c. some (c ∷ x)))) ≤ suc (length x)
-  unfolding Option-elim
-  letter_length none x = omega arith
-  letter_length (some c) x = omega arith
+  letter_length : (t : Option ℕ) (x : List ℕ) → length (text_of (option_map_or (λ c. Some (c ∷ x)) t None)) ≤ suc (length x)
+  letter_length None x = omega arith
+  letter_length (Some c) x = omega arith
 
   giving-length : (escaped : Bool) (b : ℕ) (o : Option (List ℕ)) → length (text_of (giving table escaped b o)) ≤ suc (length (text_of o))
-  unfolding giving Option-elim
-  giving-length escaped b none = omega arith
-  giving-length true b (some x) = letter_length (table b) x
-  giving-length false b (some x) = by-test (eqb b backslash) (λ y. rw y (omega arith)) (λ n. rw n (omega arith))
+  unfolding giving
+  giving-length escaped b None = omega arith
+  giving-length true b (Some x) = letter_length (table b) x
+  giving-length false b (Some x) = by-test (eqb b backslash) (λ y. rw y (omega arith)) (λ n. rw n (omega arith))
 
   pub text-length : (escaped : Bool) (f : List ℕ) → length (text_of (unescaped_from table escaped f)) ≤ length f
   unfolding unescaped_from

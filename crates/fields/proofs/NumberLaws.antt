@@ -3,7 +3,7 @@ use Prim.Native.Nat.{ℕ, ◌+◌, ◌-◌, ◌*◌, ◌≤◌, ◌<◌}
 use mathlib.Core.Path.{◌≡◌, refl, sym, ◌∙◌}
 use mathlib.Core.Bool.{Bool, true, false, cond, not, ◌&&◌, false≢true}
 use mathlib.Core.List.{List, [], ◌∷◌}
-use mathlib.Core.Option.{none, some}
+use Rattle.std.specs.Prelude.{None, Some}
 use native.Mathlib.Numerals.{add-one}
 use native.Mathlib.Omega.{arith}
 use lib.Dec.{eqb, leb, ltb}
@@ -54,20 +54,20 @@ begins-short f e =
 
 -- a number is one where its bytes begin well and are digits
 chosen :
-    {A : Type 0} (some digits short plain : Bool) (a b : A)
-    → cond (some && digits && short && plain) a b ≡ cond (some && short && plain) (cond digits a b) b
+    {A : Type 0} (Some digits short plain : Bool) (a b : A)
+    → cond (Some && digits && short && plain) a b ≡ cond (Some && short && plain) (cond digits a b) b
 chosen true true short plain a b = refl
 chosen true false true true a b = refl
 chosen true false true false a b = refl
 chosen true false false plain a b = refl
 chosen false digits short plain a b = refl
 
-pub number_is_lem : (f : List ℕ) → field_number f ≡ cond (begins_well f) (digits_from 0 f) none
+pub number_is_lem : (f : List ℕ) → field_number f ≡ cond (begins_well f) (digits_from 0 f) None
 unfolding field_number some_digits begins_well digits_from
 number_is_lem f =
     chosen (not (is_empty f)) (all digit f) (not (ltb 12 (length f))) (not (starts_with (ascii "0") f && ltb 1 (length f)))
-    (some (number f))
-    none
+    (Some (number f))
+    None
 
 pub digit_range : (b : ℕ) → digit b ≡ true → (0x30 ≤ b) × (b ≤ 0x39)
 unfolding digit
@@ -75,7 +75,7 @@ digit_range b e =
     (leb-true 0x30 b (and_left (leb 0x30 b) (leb b 0x39) e), leb-true b 0x39 (and_right (leb 0x30 b) (leb b 0x39) e))
 
 -- digits from a place on
-pub digits-stop : (n : ℕ) (f : List ℕ) (i : ℕ) → i < length f → digit (get_or f i 0) ≡ false → digits_from n (drop i f) ≡ none
+pub digits-stop : (n : ℕ) (f : List ℕ) (i : ℕ) → i < length f → digit (get_or f i 0) ≡ false → digits_from n (drop i f) ≡ None
 unfolding digits_from all
 digits-stop n f i l e = rw (drop-cons f i 0 l, e) refl
 
@@ -87,6 +87,6 @@ pub digits-next :
 unfolding digits_from all number_from
 digits-next n f i l e = rw (add-one i, drop-cons f i 0 l, e) refl
 
-pub digits-end : (n : ℕ) (f : List ℕ) (i : ℕ) → length f ≤ i → digits_from n (drop i f) ≡ some n
+pub digits-end : (n : ℕ) (f : List ℕ) (i : ℕ) → length f ≤ i → digits_from n (drop i f) ≡ Some n
 unfolding digits_from all number_from
 digits-end n f i l = rw (drop_of_length-le f l) refl

@@ -1,6 +1,7 @@
 -- Numbers and escaped texts of fields as the code holds them: a text byte by byte, each with the place after what gives it.
 use Rattle.std.specs.Prelude.{ℕ, ◌+◌, ◌≡◌, Bool, true, false, cond, not, ◌&&◌, List, [], ◌∷◌, eqb, ltb, length}
-use Rattle.std.proofs.Math.Option.{Option, none, some, Option-elim}
+use Rattle.std.specs.Prelude.{Option, None, Some}
+use Rattle.std.specs.Option.{option_map_or}
 use Rattle.format.specs.Bytes.{ascii, backslash, digit}
 use Rattle.format.specs.Texts.{is_empty, starts_with, all}
 use Rattle.format.specs.Numbers.{number_from}
@@ -11,8 +12,8 @@ use Rattle.fields.specs.declared.FieldStep.{FieldStep}
 use Rattle.fields.specs.declared.FieldLength.{FieldLength}
 
 abbrev pub number_is : Option ℕ → FieldNumber
-number_is none = FieldNumber.Bad
-number_is (some n) = FieldNumber.Number n
+number_is None = FieldNumber.Bad
+number_is (Some n) = FieldNumber.Number n
 
 -- are there 1 to 12 bytes, the first a zero only where it is alone
 unfoldable pub begins_well : List ℕ → Bool
@@ -20,16 +21,16 @@ begins_well f = not (is_empty f) && not (ltb 12 (length f)) && not (starts_with 
 
 -- the value of digits after those whose value is n; none where another byte is among them
 unfoldable pub digits_from : ℕ → List ℕ → Option ℕ
-digits_from n ds = cond (all digit ds) (some (number_from n ds)) none
+digits_from n ds = cond (all digit ds) (Some (number_from n ds)) None
 
 abbrev pub escape_is : Option ℕ → Escape
-escape_is none = Escape.Bad
-escape_is (some b) = Escape.Byte b
+escape_is None = Escape.Bad
+escape_is (Some b) = Escape.Byte b
 
 -- what stands at a place: the end, a byte that stands for itself, or a backslash and a letter of a table of escapes
 abbrev pub escaped_at : (ℕ → Option ℕ) → ℕ → List ℕ → FieldStep
 escaped_at table at [] = FieldStep.Bad
-escaped_at table at (b ∷ f) = Option-elim (table b) FieldStep.Bad (λ c. FieldStep.Byte c (at + 2))
+escaped_at table at (b ∷ f) = option_map_or (λ c. FieldStep.Byte c (at + 2)) (table b) FieldStep.Bad
 
 unfoldable pub step_in : (ℕ → Option ℕ) → ℕ → List ℕ → FieldStep
 step_in table at [] = FieldStep.End
@@ -40,21 +41,21 @@ step_is = step_in escapes
 
 -- the length of what a field stands for, after n bytes
 abbrev pub length_after : ℕ → Option (List ℕ) → FieldLength
-length_after n none = FieldLength.Bad
-length_after n (some x) = FieldLength.Of (n + length x)
+length_after n None = FieldLength.Bad
+length_after n (Some x) = FieldLength.Of (n + length x)
 
 abbrev pub length_is : Option (List ℕ) → FieldLength
-length_is none = FieldLength.Bad
-length_is (some x) = FieldLength.Of (length x)
+length_is None = FieldLength.Bad
+length_is (Some x) = FieldLength.Of (length x)
 
 -- the text that a field stands for; no bytes where it stands for none
 abbrev pub text_of : Option (List ℕ) → List ℕ
-text_of none = []
-text_of (some x) = x
+text_of None = []
+text_of (Some x) = x
 
 abbrev pub is_good : Option (List ℕ) → Bool
-is_good none = false
-is_good (some x) = true
+is_good None = false
+is_good (Some x) = true
 
 abbrev pub IsGood : Option (List ℕ) → Type 0
 IsGood o = is_good o ≡ true

@@ -1,6 +1,6 @@
 -- The contents of lists: what document 01 compares, "by contents, not by places in the text".
 use Rattle.std.specs.Prelude.{ℕ, List, map}
-use Rattle.std.proofs.Math.Option.{Option, none, some}
+use Rattle.std.specs.Prelude.{Option, None, Some}
 use Rattle.format.specs.Texts.{bytes_at}
 use Rattle.format.specs.RegionSettings.{RegionValues}
 use Rattle.format.specs.Lists.{Cue, Lists, lists}
@@ -55,8 +55,8 @@ contents l =
 
 -- the contents of entries, whose parts are parts of a text
 unfoldable pub option_of : RegionIndex → Option ℕ
-option_of RegionIndex.None = none
-option_of (RegionIndex.At i) = some i
+option_of RegionIndex.None = None
+option_of (RegionIndex.At i) = Some i
 
 unfoldable pub cue_of_entry : List ℕ → CueEntry → CueContents
 cue_of_entry s e =

@@ -1,6 +1,6 @@
 -- Document 01, "Replacing one cue": raw lines, a cue's own bytes, the cue asked for, the new file, what replacing answers, and demand 3.
 use Rattle.std.specs.Prelude.{ℕ, ◌+◌, ◌-◌, ◌≤◌, ◌≡◌, Bool, true, false, cond, not, ◌&&◌, ◌||◌, List, [], ◌∷◌, ◌++◌, eqb, ltb, length, get_or, set, take, drop}
-use Rattle.std.proofs.Math.Option.{Option, none, some}
+use Rattle.std.specs.Prelude.{Option, None, Some}
 use Rattle.format.specs.Bytes.{lf, cr}
 use Rattle.format.specs.Texts.{starts_with, is_empty, bytes_at}
 use Rattle.format.specs.Plain.{plain_text}
@@ -76,7 +76,7 @@ name_lent t w = bytes_at t (new_cue_name w).from (new_cue_name w).to
 
 -- "its region the file's last with the name lent, or none where that name is empty"
 unfoldable pub region_asked : List (List ℕ) → List ℕ → Option ℕ
-region_asked names name = cond (is_empty name) none (last_named 0 name names)
+region_asked names name = cond (is_empty name) None (last_named 0 name names)
 
 unfoldable pub with_region : Option ℕ → CueContents → CueContents
 with_region r c = record { id = c.id; start = c.start; end = c.end; text = c.text; settings = c.settings; region = r }
@@ -90,8 +90,8 @@ unfoldable pub new_test1 : List ℕ → List ℕ → Bool
 new_test1 t w = cue_test1 t w && part_plain t (new_cue_name w).from (new_cue_name w).to
 
 unfoldable pub is_there : Option ℕ → Bool
-is_there none = false
-is_there (some i) = true
+is_there None = false
+is_there (Some i) = true
 
 unfoldable pub new_test6 : List ℕ → List ℕ → List (List ℕ) → Bool
 new_test6 t w names = is_empty (name_lent t w) || is_there (last_named 0 (name_lent t w) names)
@@ -133,8 +133,8 @@ replacing_is Replacing.FileTooLong = refused 1 []
 replacing_is (Replacing.OutTooShort n) = refused 10 (n ∷ [])
 
 unfoldable pub unless_test : Option ℕ → ℕ → Answer → Answer
-unless_test none number answer = answer
-unless_test (some test) number answer = refused 8 (2 ∷ number ∷ test ∷ [])
+unless_test None number answer = answer
+unless_test (Some test) number answer = refused 8 (2 ∷ number ∷ test ∷ [])
 
 -- what replacing answers, after converting: the checks 4, 5, 7, 8, 9, 1 (output), 10 in this order, else the new file's length
 unfoldable pub replacing_text : List ℕ → ℕ → List ℕ → List ℕ → ℕ → Answer

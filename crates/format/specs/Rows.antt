@@ -1,7 +1,7 @@
 -- The rows of the lent tables: one coding and one decoding of each. No other definition knows a word by its number. Percentages and line
 -- numbers are in millionths, times in milliseconds, parts are from a place up to another.
 use Rattle.std.specs.Prelude.{ℕ, suc, ◌-◌, min, Bool, true, false, cond, ◌&&◌, List, [], ◌∷◌, map, eqb, ltb, get_or}
-use Rattle.std.proofs.Math.Option.{Option, none, some}
+use Rattle.std.specs.Prelude.{Option, None, Some}
 use Rattle.format.specs.Texts.{Part, is_empty}
 use Rattle.format.specs.CueSettings.{span_is}
 use Rattle.format.specs.RegionSettings.{RegionValues, region_is, last_named}
@@ -231,12 +231,12 @@ ids (r ∷ rs) = r.id.bytes ∷ ids rs
 
 -- an index, or none, as an entry has it
 abbrev pub index_is : Option ℕ → RegionIndex
-index_is none = RegionIndex.None
-index_is (some i) = RegionIndex.At i
+index_is None = RegionIndex.None
+index_is (Some i) = RegionIndex.At i
 
 -- the region that a cue asks for by this name, in this list; an empty name asks for none
 unfoldable pub region_for : List RegionValues → Part → Option ℕ
-region_for rs name = cond (is_empty name.bytes) none (last_named 0 name.bytes (ids rs))
+region_for rs name = cond (is_empty name.bytes) None (last_named 0 name.bytes (ids rs))
 
 -- a cue of a file with these regions, as it stands in the table
 unfoldable pub entry_is : List RegionValues → Cue → CueEntry

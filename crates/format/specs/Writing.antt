@@ -1,6 +1,6 @@
 -- Writing lists to a file: document 01's numbers and values, and what the output room holds after it.
 use Rattle.std.specs.Prelude.{ℕ, ◌+◌, ◌≡◌, List, [], ◌∷◌, length}
-use Rattle.std.proofs.Math.Option.{Option, none, some}
+use Rattle.std.specs.Prelude.{Option, None, Some}
 use Rattle.format.specs.Plain.{plain_text}
 use Rattle.format.specs.Lists.{lists}
 use Rattle.format.specs.Reading.{ReadsAgain}
@@ -19,17 +19,17 @@ writing_is (Writing.OutTooShort n) = refused 10 (n ∷ [])
 
 -- the first row of a list that is not writable: the list, the row's index, i being that of the first here, and the test
 unfoldable pub or_else : Option ℕ → ℕ → ℕ → Option (List ℕ) → Option (List ℕ)
-or_else none list i later = later
-or_else (some test) list i later = some (list ∷ i ∷ test ∷ [])
+or_else None list i later = later
+or_else (Some test) list i later = Some (list ∷ i ∷ test ∷ [])
 
 unfoldable pub first_in : ℕ → (List ℕ → Option ℕ) → ℕ → List (List ℕ) → Option (List ℕ)
-first_in list fails i [] = none
+first_in list fails i [] = None
 first_in list fails i (w ∷ ws) = or_else (fails w) list i (first_in list fails (i + 1) ws)
 
 -- refusal 8 with these values, or what comes after it
 unfoldable pub unless_failing : Option (List ℕ) → Answer → Answer
-unless_failing none answer = answer
-unless_failing (some vs) answer = refused 8 vs
+unless_failing None answer = answer
+unless_failing (Some vs) answer = refused 8 vs
 
 -- the file that rows over a text give
 unfoldable pub file_of : List ℕ → List (List ℕ) → List (List ℕ) → List (List ℕ) → List ℕ

@@ -3,7 +3,7 @@ use Prim.Native.Nat.{ℕ}
 use mathlib.Core.Path.{◌≡◌, refl, sym, ap, ◌∙◌}
 use mathlib.Core.Bool.{cond}
 use mathlib.Core.List.{List, [], ◌∷◌, ◌++◌, map, append_assoc, append-nil}
-use mathlib.Core.Option.{none, some}
+use Rattle.std.specs.Prelude.{None, Some}
 use lib.ListN.{get_or}
 use Rattle.format.specs.Contents.{option_of, cue_of_entry, region_of_entry, region_of_row}
 use Rattle.format.specs.Bytes.{ascii, lf, colon}
@@ -55,11 +55,11 @@ module _ (s : List ℕ) (regions : List (List ℕ)) (e : CueEntry) where
   abbrev lines : List ℕ
   lines = join (cue_lines (map (region_of_row s) regions) (cue_of_entry s e))
 
-  pub cue_alone : e.region ≡ RegionIndex.None → lines ≡ cue_form s e none
+  pub cue_alone : e.region ≡ RegionIndex.None → lines ≡ cue_form s e None
   unfolding cue_lines cue_of_entry cue_form timing_form settings_form named_region written_timing written_settings written_region_name option_of
   cue_alone k = rw k
 
-  pub cue_regional : (i : ℕ) → e.region ≡ RegionIndex.At i → lines ≡ cue_form s e (some (get_or (names_of s regions) i []))
+  pub cue_regional : (i : ℕ) → e.region ≡ RegionIndex.At i → lines ≡ cue_form s e (Some (get_or (names_of s regions) i []))
   unfolding cue_lines cue_of_entry cue_form timing_form settings_form named_region written_timing written_settings written_region_name option_of
   cue_regional i k = rw (k, names_of_lem s regions)
 

@@ -3,7 +3,7 @@ use Prim.Native.Nat.{ℕ, suc, ◌+◌, ◌-◌, ◌<◌}
 use mathlib.Core.Path.{◌≡◌, refl, ap, ◌∙◌}
 use mathlib.Core.Bool.{Bool, true, false, cond}
 use mathlib.Core.List.{List, [], ◌∷◌, ◌++◌, reverse, reverse-cons, reverse-append, reverse-reverse}
-use mathlib.Core.Option.{Option, none, some}
+use Rattle.std.specs.Prelude.{Option, None, Some}
 use native.Mathlib.Omega.{arith}
 use lib.Dec.{ltb}
 use lib.ListN.{length, take, get_or, length-append, length-reverse, get_or-append}
@@ -18,7 +18,7 @@ use Rattle.format.specs.declared.rows.RegionIndex.{RegionIndex}
 use Rattle.laws.proofs.Tests.{by-test}
 use Rattle.laws.proofs.Runs.{same-is}
 
-later-cond : (t : Bool) (n : ℕ) (o p : Option ℕ) → later_or (cond t (some n) o) p ≡ cond t (some n) (later_or o p)
+later-cond : (t : Bool) (n : ℕ) (o p : Option ℕ) → later_or (cond t (Some n) o) p ≡ cond t (Some n) (later_or o p)
 unfolding later_or
 later-cond true n o p = refl
 later-cond false n o p = refl
@@ -26,12 +26,12 @@ later-cond false n o p = refl
 -- with one identifier more: it is the one, or the answer is as before
 named_snoc :
     (k : ℕ) (x id : List ℕ) (ids : List (List ℕ))
-    → last_named k x (ids ++ id ∷ []) ≡ cond (same id x) (some (k + length ids)) (last_named k x ids)
+    → last_named k x (ids ++ id ∷ []) ≡ cond (same id x) (Some (k + length ids)) (last_named k x ids)
 unfolding last_named later_or
 named_snoc k x id [] = let n : k + 0 ≡ k = omega arith in rw n refl
 named_snoc k x id (y ∷ ids) =
     let n : k + 1 + length ids ≡ k + suc (length ids) = omega arith in
-    let first = cond (same y x) (some k) none in
+    let first = cond (same y x) (Some k) None in
     ap (λ o. later_or o first) (named_snoc (k + 1) x id ids)
     ∙ later-cond (same id x) (k + 1 + length ids) (last_named (k + 1) x ids) first
     ∙ rw n refl

@@ -3,7 +3,7 @@ use Prim.Native.Nat.{ℕ, suc, ◌+◌, ◌-◌, ◌≤◌, ◌<◌, min}
 use mathlib.Core.Path.{◌≡◌, refl, ap, ◌∙◌}
 use mathlib.Core.Bool.{Bool, true, false, ◌||◌, ◌&&◌}
 use mathlib.Core.List.{List, [], ◌∷◌, map}
-use mathlib.Core.Option.{Option, none, some}
+use Rattle.std.specs.Prelude.{Option, None, Some}
 use native.Mathlib.Omega.{arith}
 use lib.Dec.{eqb, ltb}
 use lib.ListN.{length, take, drop, length-append}
@@ -131,8 +131,8 @@ region_indexed rs name l =
     (λ n. rw n (go (last_named 0 name.bytes (ids rs)) refl))
   where
     go : (o : Option ℕ) → last_named 0 name.bytes (ids rs) ≡ o → Indexed (index_is o)
-    go none q = tt
-    go (some i) q = omega (arith, (found 0 name.bytes (ids rs) i q).below, ids-length rs)
+    go None q = tt
+    go (Some i) q = omega (arith, (found 0 name.bytes (ids rs) i q).below, ids-length rs)
 
 -- the rows that reading makes are read back as their entries
 pub read_inverse :
@@ -212,8 +212,8 @@ stands_bytes s p h = go p.place p.bytes h
 
 pub option_index : (o : Option ℕ) → option_of (index_is o) ≡ o
 unfolding option_of
-option_index none = refl
-option_index (some i) = refl
+option_index None = refl
+option_index (Some i) = refl
 
 -- the row of a cue, a region and a style has the contents of what was read
 cue-same :

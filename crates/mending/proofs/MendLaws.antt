@@ -3,7 +3,8 @@ use Prim.Native.Nat.{ℕ, suc, ◌+◌, ◌≤◌, ◌<◌}
 use mathlib.Core.Path.{◌≡◌, refl, sym, ap, ◌∙◌}
 use mathlib.Core.Bool.{Bool, true, false, not}
 use mathlib.Core.List.{List, []}
-use mathlib.Core.Option.{Option, none, some, Option-elim}
+use Rattle.std.specs.Prelude.{Option, None, Some}
+use Rattle.std.specs.Option.{option_map_or}
 use native.Mathlib.Omega.{arith}
 use lib.Dec.{eqb}
 use lib.ListN.{length, take, drop}
@@ -35,11 +36,11 @@ module _ (input : List ℕ) (end : ℕ) (e : end ≡ 0 + length (run (λ b. not 
   unfolding before_first
   at_end = omega arith
 
-  pub line_unended : length input ≤ end → asked input ≡ none
+  pub line_unended : length input ≤ end → asked input ≡ None
   unfolding asked
   line_unended h = rw (first_at lf input, at_end, le-ltb end (length input) h) refl
 
-  pub line_long : max_request < end → asked input ≡ none
+  pub line_long : max_request < end → asked input ≡ None
   unfolding asked
   line_long h = rw (at_end, lt-ltb max_request end h, and-false (has lf input) false refl) refl
 
@@ -56,20 +57,20 @@ module _ (input : List ℕ) (end : ℕ) (e : end ≡ 0 + length (run (λ b. not 
       after_at lf input ∙ ap (λ n. drop n input) k
 
 -- what was read of the line
-pub asked-none : (o : Option Request) → Asked.Bad ≡ asked_is o → o ≡ none
+pub asked-none : (o : Option Request) → Asked.Bad ≡ asked_is o → o ≡ None
 unfolding asked_is
-asked-none none e = refl
-asked-none (some q) e = let z : ◌≡◌ {A = ℕ} 0 1 = cc in absurd (omega arith)
+asked-none None e = refl
+asked-none (Some q) e = let z : ◌≡◌ {A = ℕ} 0 1 = cc in absurd (omega arith)
 
 pub record AskedFor (o : Option Request) (a : Asking) : Type 0 where
   pub request : Request
-  pub is : o ≡ some request
+  pub is : o ≡ Some request
   pub asking : a ≡ record { number = request.number; cue = lent_entry request; region = name_span request }
 
 pub asked-some : (o : Option Request) (a : Asking) → Asked.Cue a ≡ asked_is o → AskedFor o a
 unfolding asked_is
-asked-some none a e = let z : ◌≡◌ {A = ℕ} 0 1 = cc in absurd (omega arith)
-asked-some (some q) a e = record { request = q; is = refl; asking = cc }
+asked-some None a e = let z : ◌≡◌ {A = ℕ} 0 1 = cc in absurd (omega arith)
+asked-some (Some q) a e = record { request = q; is = refl; asking = cc }
 
 -- the text that is lent: the room holds it at its start, and the name ends where it ends
 lent_length : (q : Request) → (name_span q).to ≡ length (lent_text q)
@@ -82,12 +83,12 @@ pub record Lent (left : List ℕ) (q : Request) : Type 0 where
 
 pub lent :
     (line room left : List ℕ) (q : Request)
-    → request line ≡ some q
+    → request line ≡ Some q
     → length line ≤ max_request
     → length room ≡ max_request
-    → left ≡ room_with 0 (Option-elim (request line) [] lent_text) room
+    → left ≡ room_with 0 (option_map_or lent_text (request line) []) room
     → Lent left q
-unfolding Option-elim placed
+unfolding placed
 lent line room left q is short long e =
     let put : left ≡ room_with 0 (lent_text q) room = rw is at e in
     let fits = lent_fits line q is in
@@ -99,8 +100,8 @@ lent line room left q is short long e =
 
 -- a bad request, and a file that is too long
 module _ {o : Option Request} (raw : List ℕ) (longer : Bool) (scratch out : List ℕ) where
-  pub bad_mended : o ≡ none → MendedBy o raw longer scratch out Mending.BadRequest scratch out
-  unfolding mending_is Option-elim
+  pub bad_mended : o ≡ None → MendedBy o raw longer scratch out Mending.BadRequest scratch out
+  unfolding mending_is
   bad_mended e =
       record {
         answer = rw e refl;
@@ -109,9 +110,9 @@ module _ {o : Option Request} (raw : List ℕ) (longer : Bool) (scratch out : Li
         replaced = λ n q f. let z : ◌≡◌ {A = ℕ} 0 1 = cc in absurd (omega arith);
       }
 
-  module _ (q : Request) (is : o ≡ some q) where
+  module _ (q : Request) (is : o ≡ Some q) where
     pub long_mended : too_long raw longer ≡ true → MendedBy o raw longer scratch out (Mending.Asked Replacing.RawTooLong) scratch out
-    unfolding mending_is replacing_is mending_with if_accepted Option-elim
+    unfolding mending_is replacing_is mending_with if_accepted
     long_mended l =
         record {
           answer = rw (is, l) refl;
@@ -132,10 +133,10 @@ module _ {o : Option Request} (raw : List ℕ) (longer : Bool) (scratch out : Li
           → left ≡ replaced_room raw number t w (length scratch) out
           → ((n : ℕ) → a ≡ Replacing.File n → Replaced raw number t w (take n left))
           → MendedBy o raw longer scratch out (Mending.Asked a) text left
-      unfolding mending_is mending_with replaced_room Option-elim
+      unfolding mending_is mending_with replaced_room
       replaced_mended l en et ew e s r d =
           record {
-            answer = rw (is, l, ← et, ← ew, ← en) (ap some e);
+            answer = rw (is, l, ← et, ← ew, ← en) (ap Some e);
             scratched = rw (is, l) s;
             holds = rw (is, l, ← et, ← ew, ← en) r;
             replaced =

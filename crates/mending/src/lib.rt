@@ -3,7 +3,7 @@
 #![tactic(auto)]
 
 ghost use Rattle.std.specs.Prelude.{ℕ, ◌≤◌, ◌≡◌, length, take};
-ghost use Rattle.std.proofs.Math.Option.{some};
+ghost use Rattle.std.specs.Prelude.{Some};
 ghost use Rattle.format.specs.Bytes.{lf};
 ghost use Rattle.format.specs.Texts.{after_first};
 ghost use Rattle.format.specs.Limits.{max_request};
@@ -57,7 +57,7 @@ pub fn mend(input: &[u8], longer: bool, scratch: &mut [u8], out: &mut [u8]) -> M
     ensures answer { mending_is result ≡ mending input.now longer (length scratch.old) (length out.old) }
     ensures scratch { scratch.new ≡ mended_scratch input.now longer scratch.old }
     ensures out { out.new ≡ mended_room input.now longer (length scratch.old) out.old }
-    ensures replaced { (n : ℕ) (q : Request) → result ≡ Mendings.Asked (Replacings.File n) → asked input.now ≡ some q → Replaced (after_first lf input.now) q.number (lent_text q) (lent_row q) (take n out.new) }
+    ensures replaced { (n : ℕ) (q : Request) → result ≡ Mendings.Asked (Replacings.File n) → asked input.now ≡ Some q → Replaced (after_first lf input.now) q.number (lent_text q) (lent_row q) (take n out.new) }
 {
     let end = past(input, 0, ByteKind::Until(b'\n'));
     if MAX_LINE < end {

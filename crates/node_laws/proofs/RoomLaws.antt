@@ -3,7 +3,7 @@ use Prim.Native.Nat.{ℕ, zero, suc, ◌+◌, ◌≤◌}
 use mathlib.Core.Path.{◌≡◌, ap}
 use mathlib.Core.Bool.{Bool, true, false, ◌||◌}
 use mathlib.Core.List.{List, [], ◌∷◌, ◌++◌}
-use mathlib.Core.Option.{Option, none, some}
+use Rattle.std.specs.Prelude.{Option, None, Some}
 use native.Mathlib.Omega.{arith}
 use lib.Dec.{eqb}
 use lib.ListN.{length, drop, length-append, length-drop}
@@ -132,16 +132,16 @@ element-size :
     (parent : Option ℕ) (classes annotation : List ℕ) (o : Option NodeKind)
     → length (node_strings (element parent classes annotation o)) ≤ length classes + length annotation
 unfolding element node_strings value_for
-element-size parent classes annotation none = omega arith
-element-size parent classes annotation (some k) =
-    by-test (is_kind (some k) NodeKind.Voice || is_kind (some k) NodeKind.Language)
+element-size parent classes annotation None = omega arith
+element-size parent classes annotation (Some k) =
+    by-test (is_kind (Some k) NodeKind.Voice || is_kind (Some k) NodeKind.Language)
     (λ y. rw y (omega (arith, length-append (classes ++ annotation) [], length-append classes annotation)))
     (λ n. rw n (omega (arith, length-append (classes ++ []) [], length-append classes [])))
 
 stamped-size : (parent : Option ℕ) (o : Option Time) → length (node_strings (stamped parent o)) ≤ 0
 unfolding stamped node_strings
-stamped-size parent none = omega arith
-stamped-size parent (some t) = omega arith
+stamped-size parent None = omega arith
+stamped-size parent (Some t) = omega arith
 
 made-size : (path : List Open) (t : Token) → length (node_strings (made path t)) ≤ size t
 unfolding made size node_strings
@@ -170,7 +170,7 @@ unfolding made_length size token_classes token_value value_for
 length-size Made.None t = omega arith
 length-size Made.Over t = omega arith
 length-size (Made.Node k time) (string_token value) = omega arith
-length-size (Made.Node k time) (start_tag name classes annotation) = by-test (is_kind (some k) NodeKind.Voice || is_kind (some k) NodeKind.Language) (λ y. rw y (omega arith)) (λ n. rw n (omega arith))
+length-size (Made.Node k time) (start_tag name classes annotation) = by-test (is_kind (Some k) NodeKind.Voice || is_kind (Some k) NodeKind.Language) (λ y. rw y (omega arith)) (λ n. rw n (omega arith))
 length-size (Made.Node k time) (end_tag name) = omega arith
 length-size (Made.Node k time) (timestamp_tag value) = omega arith
 

@@ -4,7 +4,7 @@ use Prim.Native.Nat.{ℕ, zero, suc, ◌+◌, ◌-◌, ◌≤◌, ◌<◌}
 use mathlib.Core.Path.{◌≡◌, refl, sym, ap}
 use mathlib.Core.Bool.{true, ◌&&◌}
 use mathlib.Core.List.{List, [], ◌∷◌, ◌++◌, map, append_assoc}
-use mathlib.Core.Option.{Option, none, some}
+use Rattle.std.specs.Prelude.{Option, None, Some}
 use native.Mathlib.Omega.{arith}
 use lib.ListN.{length, drop, length-append}
 use lib.Seq.{take-append_seam, drop-append_seam}
@@ -22,8 +22,8 @@ use Rattle.node_laws.proofs.RoomLaws.{room_bound}
 -- the word of a parent and of a kind names it
 pub parent_named_lem : (o : Option ℕ) → parent_named (parent_word o) ≡ o
 unfolding parent_named parent_word
-parent_named_lem none = refl
-parent_named_lem (some i) = refl
+parent_named_lem None = refl
+parent_named_lem (Some i) = refl
 
 -- and a word is the word of the parent that it names
 pub named-word : (w : ℕ) → parent_word (parent_named w) ≡ w
@@ -139,9 +139,9 @@ element_turn :
     → Before index path
     → Turn path index (start_tag name classes annotation)
 unfolding made element path_after entering parents_first
-element_turn path index name classes annotation none e b =
+element_turn path index name classes annotation None e b =
     record { first = rw (sym e) refl; then = rw (sym e) (later (index + 0) (omega arith) b) }
-element_turn path index name classes annotation (some k) e b =
+element_turn path index name classes annotation (Some k) e b =
     record {
       first = rw (sym e) (current-first b);
       then = rw (sym e) (below {o = record { index = index; kind = k }} (omega arith) (later (index + 1) (omega arith) b));
@@ -153,8 +153,8 @@ stamp_turn :
     → Before index path
     → Turn path index (timestamp_tag value)
 unfolding made stamped path_after parents_first
-stamp_turn path index value none e b = record { first = rw (sym e) refl; then = rw (sym e) (later (index + 0) (omega arith) b) }
-stamp_turn path index value (some t) e b =
+stamp_turn path index value None e b = record { first = rw (sym e) refl; then = rw (sym e) (later (index + 0) (omega arith) b) }
+stamp_turn path index value (Some t) e b =
     record { first = rw (sym e) (current-first b); then = rw (sym e) (later (index + 1) (omega arith) b) }
 
 turn : (path : List Open) (index : ℕ) (t : Token) → Before index path → Turn path index t

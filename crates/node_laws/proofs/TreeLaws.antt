@@ -3,7 +3,7 @@ use Prim.Native.Nat.{ℕ, ◌+◌, ◌<◌}
 use mathlib.Core.Path.{◌≡◌, refl, sym, ap, ◌∙◌}
 use mathlib.Core.Bool.{Bool, true, false, cond, not, ◌&&◌, false≢true}
 use mathlib.Core.List.{List, [], ◌∷◌, ◌++◌, append-nil, append_assoc}
-use mathlib.Core.Option.{Option, none, some}
+use Rattle.std.specs.Prelude.{Option, None, Some}
 use native.Mathlib.Omega.{arith}
 use lib.Dec.{ltb}
 use lib.ListN.{length, drop, length-append}
@@ -21,8 +21,8 @@ use Rattle.node_laws.specs.Sizes.{kinds_of, top_kind, leaving_kinds, after_made,
 
 -- a kind that a tag names has children
 data Element : Option NodeKind → Type 0 where
-  nothing : Element none
-  one : {k : NodeKind} → kind_word k < 8 → Element (some k)
+  nothing : Element None
+  one : {k : NodeKind} → kind_word k < 8 → Element (Some k)
 
 either : (t : Bool) (a b : Option NodeKind) → Element a → Element b → Element (cond t a b)
 either true a b p q = p
@@ -41,7 +41,7 @@ named-element name =
 
 attached-element : (o : Option NodeKind) (name : List ℕ) → Element (attached o name)
 unfolding attached
-attached-element o name = either (is_kind (kind_named name) NodeKind.RubyText && not (is_kind o NodeKind.Ruby)) none (kind_named name) nothing (named-element name)
+attached-element o name = either (is_kind (kind_named name) NodeKind.RubyText && not (is_kind o NodeKind.Ruby)) None (kind_named name) nothing (named-element name)
 
 pub top_kind_lem : (path : List Open) → top_kind (kinds_of path) ≡ kind_of path
 unfolding top_kind kinds_of kind_of
@@ -65,7 +65,7 @@ module _ (P : List Open → Type 0) (left : (path : List Open) → P path → P 
   leaving_keeps o (q ∷ path) p =
       let rest = left (q ∷ path) p in
       keeps_either (is_kind o q.kind) path _ rest
-      (keeps_either (is_kind o NodeKind.Ruby && is_kind (some q.kind) NodeKind.RubyText) (drop 1 path) (q ∷ path) (left path rest) p)
+      (keeps_either (is_kind o NodeKind.Ruby && is_kind (Some q.kind) NodeKind.RubyText) (drop 1 path) (q ∷ path) (left path rest) p)
 
 -- an end tag leaves open nodes by their kinds alone
 pub leaving_kinds_lem : (o : Option NodeKind) (path : List Open) → kinds_of (leaving o path) ≡ leaving_kinds o (kinds_of path)
@@ -75,9 +75,9 @@ leaving_kinds_lem o (p ∷ path) =
     by-test (is_kind o p.kind)
     (λ y. rw y)
     (λ n.
-    by-test (is_kind o NodeKind.Ruby && is_kind (some p.kind) NodeKind.RubyText) (λ y. rw (n, y) (drop-kinds path)) (λ m. rw (n, m) refl))
+    by-test (is_kind o NodeKind.Ruby && is_kind (Some p.kind) NodeKind.RubyText) (λ y. rw (n, y) (drop-kinds path)) (λ m. rw (n, m) refl))
 
-leaving-none : (path : List Open) → leaving none path ≡ path
+leaving-none : (path : List Open) → leaving None path ≡ path
 unfolding leaving is_kind
 leaving-none [] = refl
 leaving-none (o ∷ path) = refl
@@ -106,8 +106,8 @@ element-gives path index name classes annotation e (one {k} h) =
 
 stamp_gives : (path : List Open) (index : ℕ) (value : List ℕ) (o : Option Time) → o ≡ tag_time value → Gives path index (timestamp_tag value) (stamp_made o)
 unfolding stamp_made made stamped path_after token_over time_over left_kind token_classes token_value
-stamp_gives path index value none e = ignored (rw (sym e) refl) (rw (sym e) refl) (sym (leaving-none path))
-stamp_gives path index value (some t) e =
+stamp_gives path index value None e = ignored (rw (sym e) refl) (rw (sym e) refl) (sym (leaving-none path))
+stamp_gives path index value (Some t) e =
     by-test (over_hours t)
     (λ y. rw y (above (rw (sym e) y)))
     (λ n. rw n (attaches {k = NodeKind.Timestamp} {time = milliseconds t} (rw (sym e) refl) (rw (sym e) n) refl))

@@ -1,6 +1,6 @@
 -- How many nodes tokens give and how long their strings are, told by the kinds of the open nodes alone.
 use Rattle.std.specs.Prelude.{ℕ, ◌+◌, cond, ◌&&◌, List, [], ◌∷◌, ltb, length, drop}
-use Rattle.std.proofs.Math.Option.{Option, none, some}
+use Rattle.std.specs.Prelude.{Option, None, Some}
 use Rattle.format.specs.CueText.{Token}
 use Rattle.format.specs.Trees.{Open, kind_word, is_kind}
 use Rattle.format.specs.declared.kinds.NodeKind.{NodeKind}
@@ -13,14 +13,14 @@ kinds_of [] = []
 kinds_of (o ∷ path) = o.kind ∷ kinds_of path
 
 unfoldable pub top_kind : List NodeKind → Option NodeKind
-top_kind [] = none
-top_kind (k ∷ ks) = some k
+top_kind [] = None
+top_kind (k ∷ ks) = Some k
 
 -- the kinds that stay open after an end tag that names this kind
 unfoldable pub leaving_kinds : Option NodeKind → List NodeKind → List NodeKind
 leaving_kinds named [] = []
 leaving_kinds named (k ∷ ks) =
-    cond (is_kind named k) ks (cond (is_kind named NodeKind.Ruby && is_kind (some k) NodeKind.RubyText) (drop 1 ks) (k ∷ ks))
+    cond (is_kind named k) ks (cond (is_kind named NodeKind.Ruby && is_kind (Some k) NodeKind.RubyText) (drop 1 ks) (k ∷ ks))
 
 -- the kinds that are open after a token that gives this; the kinds whose word is below 8 have children
 unfoldable pub after_made : Made → Option NodeKind → List NodeKind → List NodeKind

@@ -3,7 +3,7 @@ use Prim.Native.Nat.{ℕ, zero, suc, ◌+◌, ◌-◌, ◌≤◌, ◌<◌}
 use mathlib.Core.Path.{◌≡◌, refl, sym, ap, ◌∙◌}
 use mathlib.Core.Bool.{false, cond, ◌&&◌, ◌||◌, false≢true}
 use mathlib.Core.List.{List, [], ◌∷◌, ◌++◌, append-nil, append_assoc}
-use mathlib.Core.Option.{Option, none, some}
+use Rattle.std.specs.Prelude.{Option, None, Some}
 use native.Mathlib.Numerals.{add-one}
 use native.Mathlib.Omega.{arith}
 use lib.Dec.{eqb, ltb}
@@ -74,7 +74,7 @@ row_is parent kind from between to time classes value e f =
 
 -- the node with an index, where there is one
 abbrev no_node : Node
-no_node = record { parent = none; kind = NodeKind.String; classes = []; value = []; time = 0 }
+no_node = record { parent = None; kind = NodeKind.String; classes = []; value = []; time = 0 }
 
 -- its row says its parent and its kind
 row_at :
@@ -129,7 +129,7 @@ module _ (ns : List Node) (rest : List (List ℕ)) where
   kind_is_lem at_root = refl
   kind_is_lem (linked {o = o} h p k l) =
       let e : suc o.index - 1 ≡ o.index = omega arith in
-      rw (has-row o.index h, e) (ap some ((row_at 0 ns rest o.index h).1 ∙ k))
+      rw (has-row o.index h, e) (ap Some ((row_at 0 ns rest o.index h).1 ∙ k))
 
   -- the current node after an end tag
   left_is : (o : Option NodeKind) (path : List Open) → Linked ns path → left_in rows (parent_word (parent_of path)) o ≡ parent_word (parent_of (leaving o path))
@@ -139,7 +139,7 @@ module _ (ns : List Node) (rest : List (List ℕ)) where
       rw (kind_is_lem l, up_is l, up_is (drop_linked ns (p ∷ path) l))
       (by-test (is_kind o p.kind)
       (λ y. rw y refl)
-      (λ n. by-test (is_kind o NodeKind.Ruby && is_kind (some p.kind) NodeKind.RubyText) (λ y. rw (n, y) refl) (λ m. rw (n, m) refl)))
+      (λ n. by-test (is_kind o NodeKind.Ruby && is_kind (Some p.kind) NodeKind.RubyText) (λ y. rw (n, y) refl) (λ m. rw (n, m) refl)))
 
 -- rows and strings of nodes, and of one more
 rows_more : (place : ℕ) (ns : List Node) (n : Node) → node_rows place (ns ++ n ∷ []) ≡ node_rows place ns ++ node_words (place + length (node_strings ns)) n ∷ []

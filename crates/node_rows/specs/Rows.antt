@@ -1,6 +1,6 @@
 -- The rows of nodes as the second pass reads and stores them: a node is named by a word, 0 for the root and else its index and one.
 use Rattle.std.specs.Prelude.{ℕ, ◌+◌, ◌-◌, ◌≤◌, ◌<◌, ◌≡◌, Bool, cond, ◌&&◌, ◌||◌, List, [], ◌++◌, eqb, ltb, length, get_or, set}
-use Rattle.std.proofs.Math.Option.{Option, none, some}
+use Rattle.std.specs.Prelude.{Option, None, Some}
 use Rattle.format.specs.CueText.{Token}
 use Rattle.format.specs.Limits.{max_text}
 use Rattle.format.specs.Trees.{Node, kind_word, is_kind, parent_word, node_words, parent_named, node_of_row}
@@ -23,14 +23,14 @@ unfoldable pub up_in : List (List ℕ) → ℕ → ℕ
 up_in rows w = cond (no_row rows w) 0 (parent_word (node_named rows w).parent)
 
 unfoldable pub kind_in : List (List ℕ) → ℕ → Option NodeKind
-kind_in rows w = cond (no_row rows w) none (some (node_named rows w).kind)
+kind_in rows w = cond (no_row rows w) None (Some (node_named rows w).kind)
 
 -- the current node, which is of this kind, after an end tag that names that kind
 unfoldable pub left_of : List (List ℕ) → ℕ → Option NodeKind → Option NodeKind → ℕ
-left_of rows w none named = w
-left_of rows w (some k) named =
+left_of rows w None named = w
+left_of rows w (Some k) named =
     cond (is_kind named k) (up_in rows w)
-    (cond (is_kind named NodeKind.Ruby && is_kind (some k) NodeKind.RubyText) (up_in rows (up_in rows w)) w)
+    (cond (is_kind named NodeKind.Ruby && is_kind (Some k) NodeKind.RubyText) (up_in rows (up_in rows w)) w)
 
 unfoldable pub left_in : List (List ℕ) → ℕ → Option NodeKind → ℕ
 left_in rows w named = left_of rows w (kind_in rows w) named

@@ -4,7 +4,7 @@ use Prim.Native.Nat.{ℕ, ◌+◌, ◌*◌, ◌-◌, ◌≤◌, ◌<◌}
 use mathlib.Core.Path.{◌≡◌, refl, sym, ap, ◌∙◌}
 use mathlib.Core.Bool.{true, false, ◌&&◌, ◌||◌}
 use mathlib.Core.List.{List, [], ◌∷◌}
-use mathlib.Core.Option.{Option, none, some}
+use Rattle.std.specs.Prelude.{Option, None, Some}
 use native.Mathlib.Omega.{arith}
 use lib.Dec.{ltb}
 use lib.ListN.{length, drop, length-drop, length-map, drop_of_length-le}
@@ -44,8 +44,8 @@ node_kind {a} {kind} e = let same : a ≡ kind = cc in ap kind_word same
 -- only a start tag with a name opens a node with children
 stamp_leaf : {P : Type 0} (o : Option Time) (kind : NodeKind) (time : ℕ) → stamp_made o ≡ Made.Node kind time → kind_word kind < 8 → P
 unfolding stamp_made
-stamp_leaf none kind time e h = none_node e
-stamp_leaf (some t) kind time e h =
+stamp_leaf None kind time e h = none_node e
+stamp_leaf (Some t) kind time e h =
     by-test (over_hours t)
     (λ y. over_node (rw y at e))
     (λ n. let k = node_kind (rw n at e) in absurd (omega arith))
@@ -100,7 +100,7 @@ left-length named [] = omega arith
 left-length named (k ∷ ks) =
     by-test (is_kind named k)
     (λ y. rw y (omega arith))
-    (λ n. by-test (is_kind named NodeKind.Ruby && is_kind (some k) NodeKind.RubyText) (λ y. rw (n, y) (omega (arith, length-drop 1 ks))) (λ m. rw (n, m) (omega arith)))
+    (λ n. by-test (is_kind named NodeKind.Ruby && is_kind (Some k) NodeKind.RubyText) (λ y. rw (n, y) (omega (arith, length-drop 1 ks))) (λ m. rw (n, m) (omega arith)))
 
 module _ (s : List ℕ) (at : ℕ) (t : Token) (next : ℕ) (f : TokenAt s at t next) (ks : List NodeKind) (h : 3 * length ks ≤ at) (l : next < length s) where
   depth_made : (left : Option NodeKind) (m : Made) → made_is (top_kind ks) (token_is s t) ≡ m → 3 * length (after_made m left ks) ≤ next

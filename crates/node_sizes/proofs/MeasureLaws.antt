@@ -3,7 +3,7 @@ use Prim.Native.Nat.{ℕ, ◌+◌, ◌<◌}
 use mathlib.Core.Path.{◌≡◌, refl, sym, ap, ◌∙◌}
 use mathlib.Core.Bool.{Bool, true, false, cond, ◌&&◌}
 use mathlib.Core.List.{List, [], ◌∷◌, map}
-use mathlib.Core.Option.{Option, none, some}
+use Rattle.std.specs.Prelude.{Option, None, Some}
 use native.Mathlib.Omega.{arith}
 use lib.ListN.{length, drop}
 use Rattle.format.specs.Times.{Time, over_hours}
@@ -24,22 +24,22 @@ use Rattle.node_sizes.specs.declared.inner.measuring.Measured.{Measured}
 
 -- what an end tag leaves, by the top kind
 module _ (named : Option NodeKind) where
-  pub leaves_none : (ks : List NodeKind) → top_kind ks ≡ none → leaving_kinds named ks ≡ ks
+  pub leaves_none : (ks : List NodeKind) → top_kind ks ≡ None → leaving_kinds named ks ≡ ks
   unfolding leaving_kinds top_kind
   leaves_none [] e = refl
   leaves_none (k ∷ ks) e = let z : ◌≡◌ {A = ℕ} 0 1 = cc in absurd (omega arith)
 
   pub leaves_top :
       (ks : List NodeKind) (k : NodeKind)
-      → top_kind ks ≡ some k
+      → top_kind ks ≡ Some k
       → leaving_kinds named ks
-      ≡ cond (is_kind named k) (drop 1 ks) (cond (is_kind named NodeKind.Ruby && is_kind (some k) NodeKind.RubyText) (drop 1 (drop 1 ks)) ks)
+      ≡ cond (is_kind named k) (drop 1 ks) (cond (is_kind named NodeKind.Ruby && is_kind (Some k) NodeKind.RubyText) (drop 1 (drop 1 ks)) ks)
   unfolding leaving_kinds top_kind
   leaves_top [] k e = let z : ◌≡◌ {A = ℕ} 0 1 = cc in absurd (omega arith)
   leaves_top (j ∷ ks) k e = let f : j ≡ k = cc in rw f refl
 
 -- the kind of the top word
-pub top_opened : (ws : List ℕ) → top_of ws < 8 → top_kind (map kind_numbered ws) ≡ some (kind_numbered (top_of ws))
+pub top_opened : (ws : List ℕ) → top_of ws < 8 → top_kind (map kind_numbered ws) ≡ Some (kind_numbered (top_of ws))
 unfolding top_of top_kind
 top_opened [] h = absurd (omega arith)
 top_opened (w ∷ ws) h = refl
@@ -59,13 +59,13 @@ is_over (Made.Node kind time) = false
 
 element-within : (o : Option NodeKind) → is_over (element_made o) ≡ false
 unfolding is_over element_made
-element-within none = refl
-element-within (some k) = refl
+element-within None = refl
+element-within (Some k) = refl
 
 stamp_over : (o : Option Time) → time_over o ≡ is_over (stamp_made o)
 unfolding is_over stamp_made time_over
-stamp_over none = refl
-stamp_over (some t) = by-test (over_hours t) (λ y. rw y refl) (λ n. rw n refl)
+stamp_over None = refl
+stamp_over (Some t) = by-test (over_hours t) (λ y. rw y refl) (λ n. rw n refl)
 
 over-is : (current : Option NodeKind) (t : CueText.Token) → token_over t ≡ is_over (made_is current t)
 unfolding is_over token_over made_is

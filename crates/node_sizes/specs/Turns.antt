@@ -1,6 +1,6 @@
 -- What one token does to the open nodes and the sums of the first pass over a cue text.
 use Rattle.std.specs.Prelude.{ℕ, ◌+◌, ◌*◌, ◌≤◌, ◌<◌, ◌≡◌, true, false, cond, List, ◌∷◌, map, ltb, length}
-use Rattle.std.proofs.Math.Option.{Option}
+use Rattle.std.specs.Prelude.{Option}
 use Rattle.format.specs.Limits.{max_text}
 use Rattle.format.specs.Trees.{kind_word, kind_numbered, token_over}
 use Rattle.format.specs.declared.kinds.NodeKind.{NodeKind}

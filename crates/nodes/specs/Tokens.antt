@@ -1,6 +1,6 @@
 -- What a token gives, as the code holds it: a node or none, its strings, and which node it leaves.
 use Rattle.std.specs.Prelude.{ℕ, cond, not, ◌&&◌, List, []}
-use Rattle.std.proofs.Math.Option.{Option, none, some}
+use Rattle.std.specs.Prelude.{Option, None, Some}
 use Rattle.format.specs.Times.{Time, milliseconds, over_hours}
 use Rattle.format.specs.CueText.{Token, string_token, start_tag, end_tag, timestamp_tag}
 use Rattle.format.specs.Trees.{kind_named, is_kind, attached, class_string, tag_time, value_for}
@@ -9,20 +9,20 @@ use Rattle.nodes.specs.declared.kinds.MaybeKind.{MaybeKind}
 use Rattle.nodes.specs.declared.inner.tokens.Made.{Made}
 
 abbrev pub kind_is : MaybeKind → Option NodeKind
-kind_is MaybeKind.None = none
-kind_is (MaybeKind.Is k) = some k
+kind_is MaybeKind.None = None
+kind_is (MaybeKind.Is k) = Some k
 
 -- the kind that a tag that names this kind attaches to a current node of this kind: `attached`, of the named kind
 unfoldable pub attached_kind : Option NodeKind → Option NodeKind → Option NodeKind
-attached_kind current named = cond (is_kind named NodeKind.RubyText && not (is_kind current NodeKind.Ruby)) none named
+attached_kind current named = cond (is_kind named NodeKind.RubyText && not (is_kind current NodeKind.Ruby)) None named
 
 unfoldable pub element_made : Option NodeKind → Made
-element_made none = Made.None
-element_made (some k) = Made.Node k 0
+element_made None = Made.None
+element_made (Some k) = Made.Node k 0
 
 unfoldable pub stamp_made : Option Time → Made
-stamp_made none = Made.None
-stamp_made (some t) = cond (over_hours t) Made.Over (Made.Node NodeKind.Timestamp (milliseconds t))
+stamp_made None = Made.None
+stamp_made (Some t) = cond (over_hours t) Made.Over (Made.Node NodeKind.Timestamp (milliseconds t))
 
 unfoldable pub made_is : Option NodeKind → Token → Made
 made_is current (string_token value) = Made.Node NodeKind.String 0
@@ -45,7 +45,7 @@ token_value kind (timestamp_tag value) = []
 
 -- the kind that an end tag names; any other token names none
 unfoldable pub left_kind : Token → Option NodeKind
-left_kind (string_token value) = none
-left_kind (start_tag name classes annotation) = none
+left_kind (string_token value) = None
+left_kind (start_tag name classes annotation) = None
 left_kind (end_tag name) = kind_named name
-left_kind (timestamp_tag value) = none
+left_kind (timestamp_tag value) = None

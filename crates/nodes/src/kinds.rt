@@ -1,6 +1,6 @@
 // The kinds of nodes: the word of each, coded and decoded here alone, and the tests of a kind.
 ghost use Rattle.std.specs.Prelude.{◌≡◌};
-ghost use Rattle.std.proofs.Math.Option.{some};
+ghost use Rattle.std.specs.Prelude.{Some};
 ghost use Rattle.format.specs.Trees.{kind_word, kind_numbered, is_kind};
 ghost use Rattle.nodes.specs.Tokens.{kind_is};
 
@@ -48,7 +48,7 @@ pub fn kind_numbered(n: u64) -> NodeKind
 }
 
 pub fn same_kind(a: NodeKind, b: NodeKind) -> bool
-    ensures { result ≡ is_kind (some a) b }
+    ensures { result ≡ is_kind (Some a) b }
 {
     kind_word(a) == kind_word(b)
 }

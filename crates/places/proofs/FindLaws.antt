@@ -3,7 +3,7 @@ use Prim.Native.Nat.{ℕ, suc, ◌+◌, ◌-◌, ◌≤◌, ◌<◌}
 use mathlib.Core.Path.{◌≡◌, refl, sym, ap, ◌∙◌}
 use mathlib.Core.Bool.{Bool, true, false, cond, ◌||◌, or_assoc}
 use mathlib.Core.List.{List, [], ◌∷◌, ◌++◌}
-use mathlib.Core.Option.{Option, none, some}
+use Rattle.std.specs.Prelude.{Option, None, Some}
 use native.Mathlib.Omega.{arith}
 use lib.Dec.{eqb, ltb}
 use lib.ListN.{length, get_or, take, drop}
@@ -74,10 +74,10 @@ any_named : List ℕ → List (List ℕ) → Bool
 any_named x [] = false
 any_named x (id ∷ names) = same id x || any_named x names
 
-there_later : (o : Option ℕ) (t : Bool) (k : ℕ) → is_there (later_or o (cond t (some k) none)) ≡ t || is_there o
+there_later : (o : Option ℕ) (t : Bool) (k : ℕ) → is_there (later_or o (cond t (Some k) None)) ≡ t || is_there o
 unfolding is_there later_or
-there_later none t k = by-test t (λ y. rw y) (λ n. rw n)
-there_later (some i) t k = sym (or_true t)
+there_later None t k = by-test t (λ y. rw y) (λ n. rw n)
+there_later (Some i) t k = sym (or_true t)
 
 there_is : (k : ℕ) (x : List ℕ) (names : List (List ℕ)) → is_there (last_named k x names) ≡ any_named x names
 unfolding last_named any_named is_there
@@ -91,7 +91,7 @@ record Left (s : List ℕ) (number : ℕ) (name : List ℕ) (is : List Item) (cs
   stand : All (ItemStands s) is
   counted : f.cues + length (listed is).cues ≡ length (lists s).cues
   own : number < f.cues → OwnLines s number f.own.from f.own.to
-  none : f.cues ≤ number → f.own ≡ no_span
+  None : f.cues ≤ number → f.own ≡ no_span
   named : f.named || any_named name (ids (listed is).regions) ≡ is_there (last_named 0 name (region_names s))
 
 -- one item more, of the block b, whose lines stand there

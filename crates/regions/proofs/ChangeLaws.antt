@@ -3,7 +3,8 @@ use Prim.Native.Nat.{ℕ}
 use mathlib.Core.Path.{◌≡◌, refl, sym, ap}
 use mathlib.Core.Bool.{◌||◌}
 use mathlib.Core.List.{List}
-use mathlib.Core.Option.{Option, none, some, Option-elim}
+use Rattle.std.specs.Prelude.{Option, None, Some}
+use Rattle.std.specs.Option.{option_map_or}
 use lib.Dec.{ltb}
 use Rattle.format.specs.Texts.{Part}
 use Rattle.format.specs.Tokens.{Flagged, folded, value_of}
@@ -26,9 +27,9 @@ point_from (Percentage.Good x) (Percentage.Good y) = PointRead.Good (record { x 
 
 pub point_is_lem : (o p : Option ℕ) → point_is (point_of o p) ≡ point_from (percentage_is o) (percentage_is p)
 unfolding point_of
-point_is_lem none p = refl
-point_is_lem (some x) none = refl
-point_is_lem (some x) (some y) = refl
+point_is_lem None p = refl
+point_is_lem (Some x) None = refl
+point_is_lem (Some x) (Some y) = refl
 
 -- what each answer of the code changes
 abbrev pub lines_from : LineCount → RegionChange
@@ -38,17 +39,16 @@ lines_from (LineCount.Good n) = RegionChange.Lines n
 
 pub lines-is : (o : Option ℕ) → lines_change o ≡ lines_from (line_count_is o)
 unfolding lines_change
-lines-is none = refl
-lines-is (some n) = by-test (ltb 999_999 n) (λ y. rw y) (λ z. rw z)
+lines-is None = refl
+lines-is (Some n) = by-test (ltb 999_999 n) (λ y. rw y) (λ z. rw z)
 
 abbrev pub of_point : {A : Type 0} → PointRead → A → (Point → A) → A
 of_point PointRead.Bad absent made = absent
 of_point (PointRead.Good p) absent made = made p
 
-pub point-told : {A : Type 0} (o : Option Point) (a : A) (f : Point → A) → Option-elim o a f ≡ of_point (point_is o) a f
-unfolding Option-elim
-point-told none a f = refl
-point-told (some p) a f = refl
+pub point-told : {A : Type 0} (o : Option Point) (a : A) (f : Point → A) → option_map_or f o a ≡ of_point (point_is o) a f
+point-told None a f = refl
+point-told (Some p) a f = refl
 
 -- one token: of each part that may become the identifier the code has the span
 step_is_lem :

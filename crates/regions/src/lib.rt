@@ -2,7 +2,7 @@
 #![tactic(auto)]
 
 ghost use Rattle.std.specs.Prelude.{◌≡◌, cond, ◌≤◌, length};
-ghost use Rattle.std.proofs.Math.Option.{Option-elim};
+ghost use Rattle.std.specs.Option.{option_map_or};
 ghost use Rattle.format.specs.Bytes.{ascii};
 ghost use Rattle.format.specs.Texts.{same};
 ghost use Rattle.format.specs.Numbers.{percentage, line_count};
@@ -44,7 +44,7 @@ fn read_point(value: &[u8]) -> PointRead
 }
 
 fn width_change(value: &[u8]) -> RegionChange
-    ensures { result ≡ Option-elim (percentage value.now) Cases.Nothing Cases.Width }
+    ensures { result ≡ option_map_or Cases.Width (percentage value.now) Cases.Nothing }
 {
     match values::numbers::read_percentage(value) {
         Percentage::Bad => RegionChange::Nothing,
@@ -63,7 +63,7 @@ fn lines_change(value: &[u8]) -> RegionChange
 }
 
 fn anchor_change(value: &[u8]) -> RegionChange
-    ensures { result ≡ Option-elim (point value.now) Cases.Nothing Cases.Anchor }
+    ensures { result ≡ option_map_or Cases.Anchor (point value.now) Cases.Nothing }
 {
     match read_point(value) {
         PointRead::Bad => RegionChange::Nothing,
@@ -72,7 +72,7 @@ fn anchor_change(value: &[u8]) -> RegionChange
 }
 
 fn viewport_change(value: &[u8]) -> RegionChange
-    ensures { result ≡ Option-elim (point value.now) Cases.Nothing Cases.Viewport }
+    ensures { result ≡ option_map_or Cases.Viewport (point value.now) Cases.Nothing }
 {
     match read_point(value) {
         PointRead::Bad => RegionChange::Nothing,

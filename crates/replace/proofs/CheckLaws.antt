@@ -3,7 +3,7 @@ use Prim.Native.Nat.{ℕ, zero, suc, ◌+◌, ◌-◌, ◌≤◌, ◌<◌}
 use mathlib.Core.Path.{◌≡◌, refl, sym, ap, ◌∙◌}
 use mathlib.Core.Bool.{Bool, true, false, cond, not, ◌&&◌}
 use mathlib.Core.List.{List, [], ◌∷◌, ◌++◌}
-use mathlib.Core.Option.{Option, none, some}
+use Rattle.std.specs.Prelude.{Option, None, Some}
 use native.Mathlib.Numerals.{add-one}
 use native.Mathlib.Omega.{arith}
 use lib.Dec.{eqb}
@@ -96,10 +96,10 @@ gap_is s i j q l e =
 
 -- a number of a test says that it fails, and 0 that none does
 module _ (s t w : List ℕ) {test : ℕ} (e : test ≡ test_number (new_cue_fails t w (region_names s))) where
-  failing_is : (test ≡ 0 → ⊥) → new_cue_fails t w (region_names s) ≡ some test
-  failing_is h = number_is_lem (new_cue_fails t w (region_names s)) (λ z. h (e ∙ z)) ∙ ap some (sym e)
+  failing_is : (test ≡ 0 → ⊥) → new_cue_fails t w (region_names s) ≡ Some test
+  failing_is h = number_is_lem (new_cue_fails t w (region_names s)) (λ z. h (e ∙ z)) ∙ ap Some (sym e)
 
-  pub no_test : test ≡ 0 → new_cue_fails t w (region_names s) ≡ none
+  pub no_test : test ≡ 0 → new_cue_fails t w (region_names s) ≡ None
   unfolding new_cue_fails
   no_test z = none-fails 1 _ (omega arith) (sym e ∙ z)
 
@@ -108,7 +108,7 @@ pub test_told :
     → s ≡ plain_text raw
     → test ≡ test_number (new_cue_fails t w (region_names s))
     → (test ≡ 0 → ⊥)
-    → new_cue_fails t w (region_names (plain_text raw)) ≡ some test
+    → new_cue_fails t w (region_names (plain_text raw)) ≡ Some test
 test_told raw s t w q e h = ap (λ x. new_cue_fails t w (region_names x)) (sym q) ∙ failing_is s t w e h
 
 -- the gap before the cue's own lines
@@ -146,13 +146,13 @@ module _ (raw : List ℕ) (number : ℕ) (t w out : List ℕ) where
   failing = new_cue_fails t w (region_names (plain_text raw))
 
   pub not_writable :
-      {test : ℕ} → failing ≡ some test → Outcome new out (tested_answer raw number t w (length out)) (Replacing.NotWritable number test) out
+      {test : ℕ} → failing ≡ Some test → Outcome new out (tested_answer raw number t w (length out)) (Replacing.NotWritable number test) out
   unfolding tested_answer unless_test replacing_is if_accepted
   not_writable e = rw e (record { answer = refl; holds = refl })
 
   pub writable_passed :
       {r : Replacing} {room : List ℕ}
-      → failing ≡ none
+      → failing ≡ None
       → Outcome new out (gap_answer raw number t w (length out)) r room
       → Outcome new out (tested_answer raw number t w (length out)) r room
   unfolding tested_answer unless_test

@@ -3,7 +3,7 @@ use Prim.Native.Nat.{ℕ, ◌+◌, ◌-◌, ◌≤◌, ◌<◌}
 use mathlib.Core.Path.{◌≡◌, refl, sym, ap, ◌∙◌}
 use mathlib.Core.Bool.{true, not, ◌||◌, false≢true}
 use mathlib.Core.List.{List, [], ◌∷◌, ◌++◌}
-use mathlib.Core.Option.{Option, none, some}
+use Rattle.std.specs.Prelude.{Option, None, Some}
 use native.Mathlib.Omega.{arith}
 use lib.Dec.{ltb}
 use lib.ListN.{length, take, drop, length-drop}
@@ -59,7 +59,7 @@ lent_form_lem t w words name e f =
     ∙ rw f (ap (λ a. cue_form t (new_cue_entry w) (asked a (name_lent t w))) (some_bytes (name_lent t w)))
 
 -- it is the form of the cue asked for, where no test fails
-module _ (s t w : List ℕ) (e : new_cue_fails t w (region_names s) ≡ none) where
+module _ (s t w : List ℕ) (e : new_cue_fails t w (region_names s) ≡ None) where
   abbrev names : List (List ℕ)
   names = region_names s
 
@@ -67,10 +67,10 @@ module _ (s t w : List ℕ) (e : new_cue_fails t w (region_names s) ≡ none) wh
   name = name_lent t w
 
   found-region :
-      (o : Option ℕ) → region_asked names name ≡ o → is_there o ≡ true → named_region (some name) ≡ written_region_name (contents (lists s)).regions o
+      (o : Option ℕ) → region_asked names name ≡ o → is_there o ≡ true → named_region (Some name) ≡ written_region_name (contents (lists s)).regions o
   unfolding named_region written_region_name is_there
-  found-region none q h = absurd (false≢true h)
-  found-region (some i) q h = rw (names_are s t w e, asked-name s t w e i q) refl
+  found-region None q h = absurd (false≢true h)
+  found-region (Some i) q h = rw (names_are s t w e, asked-name s t w e i q) refl
 
   is_there_lem : (is_empty name || is_there (last_named 0 name names)) ≡ true
   unfolding new_cue_fails new_test6 cue_tests
@@ -93,7 +93,7 @@ pub file-is :
     (raw s t w : List ℕ) (number from to first more start end : ℕ)
     → s ≡ plain_text raw
     → OwnLines s number from to
-    → new_cue_fails t w (region_names s) ≡ none
+    → new_cue_fails t w (region_names s) ≡ None
     → first ≡ line_ends (bytes_at s 0 from)
     → more ≡ line_ends (bytes_at s from to)
     → start ≡ 0 + raw_start (drop 0 raw) first

@@ -3,7 +3,7 @@
 #![tactic(auto)]
 
 ghost use Rattle.std.specs.Prelude.{ℕ, ◌-◌, ◌≤◌, ◌<◌, ◌≡◌, false, not, ◌&&◌, [], length, get_or, take};
-ghost use Rattle.std.proofs.Math.Option.{none};
+ghost use Rattle.std.specs.Prelude.{None};
 ghost use Rattle.format.specs.Texts.{is_empty};
 ghost use Rattle.format.specs.Lines.{split};
 ghost use Rattle.format.specs.Plain.{plain_text};
@@ -55,7 +55,7 @@ fn replace_own(
     row: NewCueRow,
     out: &mut [u8],
 ) -> Replacing
-    requires { (s.now ≡ plain_text raw.now) × (OwnLines s.now number own.from own.to) × (new_cue_fails text.now row (region_names s.now) ≡ none) }
+    requires { (s.now ≡ plain_text raw.now) × (OwnLines s.now number own.from own.to) × (new_cue_fails text.now row (region_names s.now) ≡ None) }
     ensures { Outcome (new_file raw.now number text.now row) out.old (file_answer (new_file raw.now number text.now row) (length out.old)) result out.new }
 {
     let first = blocks::line_ends(part(s, 0, own.from));
@@ -107,7 +107,7 @@ fn replace_found(
     row: NewCueRow,
     out: &mut [u8],
 ) -> Replacing
-    requires { (s.now ≡ plain_text raw.now) × (FoundIn s.now number (name_lent text.now row) found) × (number < found.cues) × (new_cue_fails text.now row (region_names s.now) ≡ none) }
+    requires { (s.now ≡ plain_text raw.now) × (FoundIn s.now number (name_lent text.now row) found) × (number < found.cues) × (new_cue_fails text.now row (region_names s.now) ≡ None) }
     ensures { Outcome (new_file raw.now number text.now row) out.old (gap_answer raw.now number text.now row (length out.old)) result out.new }
 {
     let own = found.own;

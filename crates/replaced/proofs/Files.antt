@@ -4,7 +4,7 @@ use Prim.Native.Nat.{ℕ, zero, suc, ◌+◌, ◌≤◌, ◌<◌}
 use mathlib.Core.Path.{◌≡◌, refl, sym, ap, ◌∙◌}
 use mathlib.Core.Bool.{true, false, not}
 use mathlib.Core.List.{List, [], ◌∷◌, ◌++◌, append_assoc}
-use mathlib.Core.Option.{Option, none, some}
+use Rattle.std.specs.Prelude.{Option, None, Some}
 use native.Mathlib.Omega.{arith}
 use lib.Dec.{ltb}
 use lib.ListN.{length, get_or, take, drop}
@@ -27,17 +27,17 @@ use Rattle.replaced.proofs.Spans.{lines_moved}
 use Rattle.replaced.proofs.Asked.{asked_writable, form_plain, form_begins}
 
 -- a new cue that fails a test is refused
-after_option : (o : Option ℕ) (n : ℕ) (vs : List ℕ) (a : Answer) → unless_test o n a ≡ accepted vs → (o ≡ none) × (a ≡ accepted vs)
+after_option : (o : Option ℕ) (n : ℕ) (vs : List ℕ) (a : Answer) → unless_test o n a ≡ accepted vs → (o ≡ None) × (a ≡ accepted vs)
 unfolding unless_test
-after_option none n vs a e = (refl, e)
-after_option (some test) n vs a e = let z : ◌≡◌ {A = ℕ} 0 1 = cc in absurd (omega arith)
+after_option None n vs a e = (refl, e)
+after_option (Some test) n vs a e = let z : ◌≡◌ {A = ℕ} 0 1 = cc in absurd (omega arith)
 
 -- a file and a new cue that pass the checks 4, 5, 7, 8, 9
 pub record Passes (raw : List ℕ) (number : ℕ) (t w : List ℕ) : Type 0 where
   pub signature : has_signature (plain_text raw) ≡ true
   pub within : any_over (items (plain_text raw)) ≡ false
   pub there : number < length (lists (plain_text raw)).cues
-  pub writable : new_cue_fails t w (region_names (plain_text raw)) ≡ none
+  pub writable : new_cue_fails t w (region_names (plain_text raw)) ≡ None
   pub gap : no_gap (plain_text raw) number t w ≡ false
 
 -- they do where what is answered after the checks is accepted

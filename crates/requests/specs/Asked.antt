@@ -1,6 +1,6 @@
 -- A request as the code holds it, and the parts of a line that give it.
 use Rattle.std.specs.Prelude.{ℕ, ◌+◌, List, [], get_or}
-use Rattle.std.proofs.Math.Option.{Option, none, some}
+use Rattle.std.specs.Prelude.{Option, None, Some}
 use Rattle.format.specs.Fields.{fields, field_number, unescaped}
 use Rattle.format.specs.Requests.{Request, settings_field, request_with, name_span, lent_entry}
 use Rattle.format.specs.declared.settings.Settings.{Settings}
@@ -17,8 +17,8 @@ use Rattle.requests.specs.declared.LengthsRead.{LengthsRead}
 
 -- the request, the new cue's parts standing one after the other; bad where there is none
 unfoldable pub asked_is : Option Request → Asked
-asked_is none = Asked.Bad
-asked_is (some q) = Asked.Cue (record { number = q.number; cue = lent_entry q; region = name_span q })
+asked_is None = Asked.Bad
+asked_is (Some q) = Asked.Cue (record { number = q.number; cue = lent_entry q; region = name_span q })
 
 -- a field of a line
 abbrev pub field_of : List ℕ → ℕ → List ℕ
@@ -51,7 +51,7 @@ name_of f = (settings_field f).value.region.bytes
 -- the request, its numbers being read
 unfoldable pub rest_of : Numbers → List (List ℕ) → Option Request
 rest_of n fs =
-    request_with (some n.number) (some n.start) (some n.end) (unescaped (get_or fs 4 [])) (settings_field (get_or fs 5 []))
+    request_with (Some n.number) (Some n.start) (Some n.end) (unescaped (get_or fs 4 [])) (settings_field (get_or fs 5 []))
     (unescaped (get_or fs 6 []))
 
 -- what is asked for, with parts of these lengths

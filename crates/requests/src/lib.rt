@@ -4,7 +4,7 @@
 #![tactic(auto)]
 
 ghost use Rattle.std.specs.Prelude.{◌+◌, ◌<◌, ◌^◌, ◌≡◌, [], ◌++◌, length};
-ghost use Rattle.std.proofs.Math.Option.{Option-elim};
+ghost use Rattle.std.specs.Option.{option_map_or};
 ghost use Rattle.format.specs.Fields.{fields, field_number, unescaped};
 ghost use Rattle.format.specs.Requests.{settings_field, request, request_of, lent_text};
 ghost use Rattle.format.specs.Rows.{new_cue_words};
@@ -160,7 +160,7 @@ fn asking_of(numbers: Numbers, settings: Settings, lengths: Lengths, name: usize
 // What the fields after the numbers ask for.
 fn read_rest(line: &[u8], numbers: Numbers, room: &mut [u8]) -> Asked
     ensures answer { result ≡ asked_is (rest_of numbers (fields line.now)) }
-    ensures room { room.new ≡ room_with 0 (Option-elim (rest_of numbers (fields line.now)) [] lent_text) room.old }
+    ensures room { room.new ≡ room_with 0 (option_map_or lent_text (rest_of numbers (fields line.now)) []) room.old }
 {
     let LengthsRead::Good(lengths) = lengths_of(line) else {
         return Asked::Bad;
@@ -177,7 +177,7 @@ fn read_rest(line: &[u8], numbers: Numbers, room: &mut [u8]) -> Asked
 
 fn read_fields(line: &[u8], room: &mut [u8]) -> Asked
     ensures answer { result ≡ asked_is (request_of (fields line.now)) }
-    ensures room { room.new ≡ room_with 0 (Option-elim (request_of (fields line.now)) [] lent_text) room.old }
+    ensures room { room.new ≡ room_with 0 (option_map_or lent_text (request_of (fields line.now)) []) room.old }
 {
     match numbers_of(line) {
         NumbersRead::Bad => Asked::Bad,
@@ -188,7 +188,7 @@ fn read_fields(line: &[u8], room: &mut [u8]) -> Asked
 // What a line asks for. The new cue's parts are put into the room.
 pub fn read(line: &[u8], room: &mut [u8]) -> Asked
     ensures answer { result ≡ asked_is (request line.now) }
-    ensures room { room.new ≡ room_with 0 (Option-elim (request line.now) [] lent_text) room.old }
+    ensures room { room.new ≡ room_with 0 (option_map_or lent_text (request line.now) []) room.old }
 {
     if fields::count(line) != 7 {
         return Asked::Bad;

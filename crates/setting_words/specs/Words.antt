@@ -1,6 +1,6 @@
 -- What the words of a cue's settings mean, as the code holds it. `proofs/AlignLaws.antt` proves that this is what `format` says.
 use Rattle.std.specs.Prelude.{ℕ, cond, List}
-use Rattle.std.proofs.Math.Option.{Option, none, some}
+use Rattle.std.specs.Prelude.{Option, None, Some}
 use Rattle.format.specs.Bytes.{ascii, comma}
 use Rattle.format.specs.Texts.{same, after_first, has}
 use Rattle.format.specs.declared.settings.LineAlign.{LineAlign}
@@ -49,9 +49,9 @@ position_named AlignName.LineRight a = PositionAligned.Good PositionAlign.LineRi
 position_named AlignName.Other a = PositionAligned.Bad
 
 abbrev pub line_aligned_is : Option LineAlign → LineAligned
-line_aligned_is none = LineAligned.Bad
-line_aligned_is (some a) = LineAligned.Good a
+line_aligned_is None = LineAligned.Bad
+line_aligned_is (Some a) = LineAligned.Good a
 
 abbrev pub position_aligned_is : Option PositionAlign → PositionAligned
-position_aligned_is none = PositionAligned.Bad
-position_aligned_is (some a) = PositionAligned.Good a
+position_aligned_is None = PositionAligned.Bad
+position_aligned_is (Some a) = PositionAligned.Good a

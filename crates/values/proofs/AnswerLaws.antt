@@ -2,7 +2,7 @@
 use Prim.Native.Nat.{ℕ}
 use mathlib.Core.Path.{◌≡◌, refl}
 use mathlib.Core.List.{[], ◌∷◌}
-use mathlib.Core.Option.{Option, none, some}
+use Rattle.std.specs.Prelude.{Option, None, Some}
 use lib.Dec.{ltb}
 use Rattle.format.specs.Limits.{max_line}
 use Rattle.format.specs.Answers.{limited}
@@ -26,10 +26,10 @@ stamp_told n (got t rest) r e = (e, rw e (by-test (over_hours t) (λ y. rw y ref
 pub line_told :
     (n : Option Format.LineNumber) (r : LineNumber) → r ≡ line_number_is n → (r ≡ line_number_is n) × (line_number_answer r ≡ number_answer n)
 unfolding limited
-line_told none r e = (e, rw e refl)
-line_told (some n) r e = (e, rw e (by-test (over_line n) (λ y. rw y refl) (λ z. rw z refl)))
+line_told None r e = (e, rw e refl)
+line_told (Some n) r e = (e, rw e (by-test (over_line n) (λ y. rw y refl) (λ z. rw z refl)))
 
 pub count-told : (n : Option ℕ) (r : LineCount) → r ≡ line_count_is n → (r ≡ line_count_is n) × (line_count_answer r ≡ count_answer n)
 unfolding limited
-count-told none r e = (e, rw e refl)
-count-told (some n) r e = (e, rw e (by-test (ltb max_line n) (λ y. rw y refl) (λ z. rw z refl)))
+count-told None r e = (e, rw e refl)
+count-told (Some n) r e = (e, rw e (by-test (ltb max_line n) (λ y. rw y refl) (λ z. rw z refl)))

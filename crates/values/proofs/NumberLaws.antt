@@ -3,7 +3,8 @@ use Prim.Native.Nat.{ℕ, ◌+◌, ◌-◌, ◌≤◌, ◌<◌, min}
 use mathlib.Core.Path.{◌≡◌, refl, sym, ◌∙◌}
 use mathlib.Core.Bool.{Bool, true, false, cond, not, ◌&&◌, true≢false}
 use mathlib.Core.List.{List, [], ◌∷◌}
-use mathlib.Core.Option.{Option, none, some, Option-elim}
+use Rattle.std.specs.Prelude.{Option, None, Some}
+use Rattle.std.specs.Option.{option_map_or}
 use native.Mathlib.Numerals.{add-one}
 use native.Mathlib.Omega.{arith}
 use lib.Dec.{eqb, ltb}
@@ -31,10 +32,9 @@ of_percentage Percentage.Bad absent made = absent
 of_percentage (Percentage.Good n) absent made = made n
 
 pub percentage-told :
-    {A : Type 0} (o : Option ℕ) (a : A) (f : ℕ → A) → Option-elim o a f ≡ of_percentage (percentage_is o) a f
-unfolding Option-elim
-percentage-told none a f = refl
-percentage-told (some n) a f = refl
+    {A : Type 0} (o : Option ℕ) (a : A) (f : ℕ → A) → option_map_or f o a ≡ of_percentage (percentage_is o) a f
+percentage-told None a f = refl
+percentage-told (Some n) a f = refl
 
 pub empty_is : (s : List ℕ) → length s ≡ 0 → is_empty s ≡ true
 unfolding is_empty
@@ -73,27 +73,27 @@ exact limit d l e =
 
 pub share_is : (o : Option Decimal) → percentage_of (decimal_is o) ≡ percentage_is (up_to100 o)
 unfolding up_to100 millionths
-share_is none = refl
-share_is (some d) =
+share_is None = refl
+share_is (Some d) =
     by-test (above 100 d)
     (λ y. rw (above_held_lem 100 d (omega arith), y))
     (λ n. rw (above_held_lem 100 d (omega arith), n, exact 100 d (omega arith) n))
 
 pub line_is : (minus : Bool) (o : Option Decimal) → line_of minus (decimal_is o) ≡ line_number_is (signed minus o)
 unfolding signed over_line is_negative millionths
-line_is minus none = refl
-line_is minus (some d) =
+line_is minus None = refl
+line_is minus (Some d) =
     by-test (above 999_999 d)
     (λ y. rw (above_held_lem 999_999 d (omega arith), y))
     (λ n. rw (above_held_lem 999_999 d (omega arith), n, exact 999_999 d (omega arith) n))
 
 -- a decimal from the digits at a slice's start
 module _ (s : List ℕ) (end : ℕ) (r : RunStart digit s end) where
-  pub decimal-none : end ≡ 0 → decimal s ≡ none
+  pub decimal-none : end ≡ 0 → decimal s ≡ None
   unfolding decimal decimal_of is_empty
   decimal-none e = rw (r.bytes, e) (go (past_run digit s))
     where
-      go : (x : List ℕ) → decimal_of [] x ≡ none
+      go : (x : List ℕ) → decimal_of [] x ≡ None
       go [] = refl
       go (b ∷ x) = refl
 
@@ -101,7 +101,7 @@ module _ (s : List ℕ) (end : ℕ) (r : RunStart digit s end) where
     whole : is_empty (take end s) ≡ false
     whole = is_empty-not (take end s) (omega (arith, length-take-le end s r.inside))
 
-    pub decimal-whole : end ≡ length s → decimal s ≡ some (record { whole = take end s; fraction = [] })
+    pub decimal-whole : end ≡ length s → decimal s ≡ Some (record { whole = take end s; fraction = [] })
     unfolding decimal decimal_of
     decimal-whole e = let l : length s ≤ end = omega arith in rw (r.bytes, r.past, drop_of_length-le s l, whole)
 
@@ -109,41 +109,41 @@ module _ (s : List ℕ) (end : ℕ) (r : RunStart digit s end) where
         end < length s
         → decimal s
         ≡ cond (eqb (get_or s end 0) full_stop && some_digits (drop (end + 1) s))
-        (some (record { whole = take end s; fraction = drop (end + 1) s })) none
+        (Some (record { whole = take end s; fraction = drop (end + 1) s })) None
     unfolding decimal decimal_of
     stop_is l = rw (r.bytes, r.past, add-one end, drop-cons s end 0 l, whole)
 
-    pub decimal_no_stop : end < length s → (get_or s end 0 ≡ full_stop → ⊥) → decimal s ≡ none
+    pub decimal_no_stop : end < length s → (get_or s end 0 ≡ full_stop → ⊥) → decimal s ≡ None
     decimal_no_stop l e = stop_is l ∙ rw (ne_eqb (get_or s end 0) full_stop e)
 
-    pub decimal_no_fraction : end < length s → length s ≡ end + 1 → decimal s ≡ none
+    pub decimal_no_fraction : end < length s → length s ≡ end + 1 → decimal s ≡ None
     unfolding some_digits is_empty
     decimal_no_fraction l e =
         let k : length s ≤ end + 1 = omega arith in
         stop_is l ∙ rw (drop_of_length-le s k, and-false (eqb (get_or s end 0) full_stop) false refl)
 
     module _ (l : end < length s) (e : get_or s end 0 ≡ full_stop) (more : end + 1 < length s) where
-      fraction-is : decimal s ≡ cond (all digit (drop (end + 1) s)) (some (record { whole = take end s; fraction = drop (end + 1) s })) none
+      fraction-is : decimal s ≡ cond (all digit (drop (end + 1) s)) (Some (record { whole = take end s; fraction = drop (end + 1) s })) None
       unfolding some_digits
       fraction-is =
           stop_is l
           ∙ rw (eq-eqb (get_or s end 0) full_stop e, is_empty-not (drop (end + 1) s) (omega (arith, length-drop (end + 1) s)))
 
-      pub decimal_bad_fraction : all digit (drop (end + 1) s) ≡ false → decimal s ≡ none
+      pub decimal_bad_fraction : all digit (drop (end + 1) s) ≡ false → decimal s ≡ None
       decimal_bad_fraction a = fraction-is ∙ rw a
 
-      pub decimal-fraction : all digit (drop (end + 1) s) ≡ true → decimal s ≡ some (record { whole = take end s; fraction = drop (end + 1) s })
+      pub decimal-fraction : all digit (drop (end + 1) s) ≡ true → decimal s ≡ Some (record { whole = take end s; fraction = drop (end + 1) s })
       decimal-fraction a = fraction-is ∙ rw a
 
 pub none_empty_lem : (s : List ℕ) → length s ≡ 0 → s ≡ []
 none_empty_lem [] e = refl
 none_empty_lem (b ∷ s) e = absurd (omega arith)
 
-pub percentage-short : (s : List ℕ) → length s ≡ 0 → percentage s ≡ none
+pub percentage-short : (s : List ℕ) → length s ≡ 0 → percentage s ≡ None
 unfolding percentage ends_with
 percentage-short s e = rw (none_empty_lem s e)
 
-pub percentage_other : (s : List ℕ) → 0 < length s → (get_or s (length s - 1) 0 ≡ percent → ⊥) → percentage s ≡ none
+pub percentage_other : (s : List ℕ) → 0 < length s → (get_or s (length s - 1) 0 ≡ percent → ⊥) → percentage s ≡ None
 unfolding percentage
 percentage_other s h e = rw (ends_with-last percent s h, ne_eqb (get_or s (length s - 1) 0) percent e)
 
@@ -151,7 +151,7 @@ pub percentage_is_lem : (s : List ℕ) → 0 < length s → get_or s (length s -
 unfolding percentage
 percentage_is_lem s h e = rw (ends_with-last percent s h, eq-eqb (get_or s (length s - 1) 0) percent e, without_last-take s)
 
-pub line_none : (s : List ℕ) → length s ≡ 0 → line_number s ≡ none
+pub line_none : (s : List ℕ) → length s ≡ 0 → line_number s ≡ None
 unfolding line_number
 line_none s e = rw (none_empty_lem s e)
 
@@ -165,14 +165,14 @@ unfolding line_number
 line_plain [] h e = absurd (omega arith)
 line_plain (b ∷ s) h e = rw (ne_eqb b hyphen e)
 
-pub count_none : (s : List ℕ) → length s ≡ 0 → line_count s ≡ none
+pub count_none : (s : List ℕ) → length s ≡ 0 → line_count s ≡ None
 unfolding line_count some_digits is_empty
 count_none s e = rw (none_empty_lem s e)
 
-pub count_other : (s : List ℕ) → all digit s ≡ false → line_count s ≡ none
+pub count_other : (s : List ℕ) → all digit s ≡ false → line_count s ≡ None
 unfolding line_count some_digits
 count_other s a = rw (a, and-false (not (is_empty s)) false refl)
 
-pub count-is : (s : List ℕ) → 0 < length s → all digit s ≡ true → line_count s ≡ some (number s)
+pub count-is : (s : List ℕ) → 0 < length s → all digit s ≡ true → line_count s ≡ Some (number s)
 unfolding line_count some_digits
 count-is s h a = rw (a, is_empty-not s h)

@@ -1,6 +1,6 @@
 -- Numbers as the code holds them.
 use Rattle.std.specs.Prelude.{ℕ, ◌+◌, ◌*◌, min, Bool, cond, not, ◌&&◌, ◌||◌, [], ◌∷◌, ◌++◌, eqb, ltb, take}
-use Rattle.std.proofs.Math.Option.{Option, none, some}
+use Rattle.std.specs.Prelude.{Option, None, Some}
 use Rattle.format.specs.Bytes.{ascii}
 use Rattle.format.specs.Texts.{all}
 use Rattle.format.specs.Answers.{Answer, accepted, refused, limited}
@@ -16,14 +16,14 @@ abbrev pub cap : ℕ
 cap = 1_000_000
 
 abbrev pub decimal_is : Option Format.Decimal → Decimal
-decimal_is none = Decimal.Bad
-decimal_is (some d) =
+decimal_is None = Decimal.Bad
+decimal_is (Some d) =
     Decimal.Good (min (Format.number d.whole) cap) (Format.number (take 6 (d.fraction ++ ascii "000000")))
     (not (all (λ b. eqb b 0x30) d.fraction))
 
 abbrev pub percentage_is : Option ℕ → Percentage
-percentage_is none = Percentage.Bad
-percentage_is (some n) = Percentage.Good n
+percentage_is None = Percentage.Bad
+percentage_is (Some n) = Percentage.Good n
 
 -- is a held decimal above a limit below the cap
 abbrev pub above_held : ℕ → ℕ → Bool → Bool
@@ -39,30 +39,30 @@ line_of minus (Decimal.Good w f m) =
     cond (above_held 999_999 w m) LineNumber.Over (LineNumber.Good (minus && ltb 0 (w * 1_000_000 + f)) (w * 1_000_000 + f))
 
 abbrev pub line_number_is : Option Format.LineNumber → LineNumber
-line_number_is none = LineNumber.Bad
-line_number_is (some n) =
+line_number_is None = LineNumber.Bad
+line_number_is (Some n) =
     cond (Format.over_line n) LineNumber.Over (LineNumber.Good (Format.is_negative n) (Format.millionths n.size))
 
 abbrev pub line_count_is : Option ℕ → LineCount
-line_count_is none = LineCount.Bad
-line_count_is (some n) = cond (ltb 999_999 n) LineCount.Over (LineCount.Good n)
+line_count_is None = LineCount.Bad
+line_count_is (Some n) = cond (ltb 999_999 n) LineCount.Over (LineCount.Good n)
 
 -- the number and the values of each case, sign (1 for minus) and millionths of a line number; none where there is no such number
 abbrev pub line_number_answer : LineNumber → Option Answer
-line_number_answer LineNumber.Bad = none
-line_number_answer LineNumber.Over = some (refused 5 [])
-line_number_answer (LineNumber.Good negative m) = some (accepted (cond negative 1 0 ∷ m ∷ []))
+line_number_answer LineNumber.Bad = None
+line_number_answer LineNumber.Over = Some (refused 5 [])
+line_number_answer (LineNumber.Good negative m) = Some (accepted (cond negative 1 0 ∷ m ∷ []))
 
 abbrev pub line_count_answer : LineCount → Option Answer
-line_count_answer LineCount.Bad = none
-line_count_answer LineCount.Over = some (refused 5 [])
-line_count_answer (LineCount.Good n) = some (accepted (n ∷ []))
+line_count_answer LineCount.Bad = None
+line_count_answer LineCount.Over = Some (refused 5 [])
+line_count_answer (LineCount.Good n) = Some (accepted (n ∷ []))
 
 -- what reading a line number and a count of lines answers
 abbrev pub number_answer : Option Format.LineNumber → Option Answer
-number_answer none = none
-number_answer (some n) = some (limited (Format.over_line n) (cond (Format.is_negative n) 1 0 ∷ Format.millionths n.size ∷ []))
+number_answer None = None
+number_answer (Some n) = Some (limited (Format.over_line n) (cond (Format.is_negative n) 1 0 ∷ Format.millionths n.size ∷ []))
 
 abbrev pub count_answer : Option ℕ → Option Answer
-count_answer none = none
-count_answer (some n) = some (limited (ltb max_line n) (n ∷ []))
+count_answer None = None
+count_answer (Some n) = Some (limited (ltb max_line n) (n ∷ []))

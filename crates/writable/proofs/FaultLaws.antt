@@ -3,7 +3,7 @@ use Prim.Native.Nat.{ℕ, suc, ◌+◌, ◌≤◌, ◌<◌}
 use mathlib.Core.Path.{◌≡◌, refl, sym, ◌∙◌}
 use mathlib.Core.Bool.{Bool, true, false, not}
 use mathlib.Core.List.{List, [], ◌∷◌, ◌++◌}
-use mathlib.Core.Option.{Option, none, some}
+use Rattle.std.specs.Prelude.{Option, None, Some}
 use native.Mathlib.Numerals.{add-one}
 use native.Mathlib.Omega.{arith}
 use lib.ListN.{length, get_or, drop, drop_of_length-le}
@@ -38,14 +38,14 @@ fails-after n (true ∷ ts) us h e =
 fails-after n (false ∷ ts) us h e = absurd (omega arith)
 
 -- tests are counted from 1, so 0 says that none fails
-pub none-fails : (n : ℕ) (ts : List Bool) → 0 < n → test_number (first_failing n ts) ≡ 0 → first_failing n ts ≡ none
+pub none-fails : (n : ℕ) (ts : List Bool) → 0 < n → test_number (first_failing n ts) ≡ 0 → first_failing n ts ≡ None
 unfolding first_failing
 none-fails n [] h e = refl
 none-fails n (true ∷ ts) h e = none-fails (n + 1) ts (omega arith) e
 none-fails n (false ∷ ts) h e = absurd (omega arith)
 
 abbrev Counted : (List ℕ → Option ℕ) → Type 0
-Counted fails = (w : List ℕ) → test_number (fails w) ≡ 0 → fails w ≡ none
+Counted fails = (w : List ℕ) → test_number (fails w) ≡ 0 → fails w ≡ None
 
 pub style-counted : (s : List ℕ) → Counted (style_fails s)
 unfolding style_fails
@@ -59,9 +59,9 @@ pub cue-counted : (s : List ℕ) (regions : List (List ℕ)) → Counted (cue_fa
 unfolding cue_fails
 cue-counted s regions w e = none-fails 1 _ (omega arith) e
 
-pub number_is_lem : (o : Option ℕ) → (test_number o ≡ 0 → ⊥) → o ≡ some (test_number o)
-number_is_lem none f = absurd (f refl)
-number_is_lem (some n) f = refl
+pub number_is_lem : (o : Option ℕ) → (test_number o ≡ 0 → ⊥) → o ≡ Some (test_number o)
+number_is_lem None f = absurd (f refl)
+number_is_lem (Some n) f = refl
 
 -- the first row that fails, at a place of the list: what is left gives the whole
 module _ (list : ℕ) (fails : List ℕ → Option ℕ) (rows : List (List ℕ)) where
@@ -82,7 +82,7 @@ module _ (list : ℕ) (fails : List ℕ → Option ℕ) (rows : List (List ℕ))
       → i < length rows
       → test ≡ test_number (fails (get_or rows i []))
       → (test ≡ 0 → ⊥)
-      → some (list ∷ i ∷ test ∷ []) ≡ first_in list fails 0 rows
+      → Some (list ∷ i ∷ test ∷ []) ≡ first_in list fails 0 rows
   unfolding or_else
   first-stop i test e h t f =
       sym (first_at i e h ∙ rw (number_is_lem (fails (get_or rows i [])) (λ z. f (t ∙ z)), ← t) refl)
@@ -98,6 +98,6 @@ module _ (list : ℕ) (fails : List ℕ → Option ℕ) (rows : List (List ℕ))
   unfolding or_else
   first_next i test e h counted t z = first_at i e h ∙ rw (counted (get_or rows i []) (sym t ∙ z)) refl
 
-  pub first_end_lem : (i : ℕ) → Left i → length rows ≤ i → none ≡ first_in list fails 0 rows
+  pub first_end_lem : (i : ℕ) → Left i → length rows ≤ i → None ≡ first_in list fails 0 rows
   unfolding first_in
   first_end_lem i e h = sym (e ∙ rw (drop_of_length-le rows h) refl)

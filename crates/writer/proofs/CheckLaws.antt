@@ -2,7 +2,7 @@
 use Prim.Native.Nat.{ℕ}
 use mathlib.Core.Path.{◌≡◌, refl, sym}
 use mathlib.Core.List.{List, [], ◌∷◌}
-use mathlib.Core.Option.{Option}
+use Rattle.std.specs.Prelude.{Option}
 use Rattle.format.specs.Answers.{Answer, refused}
 use Rattle.format.specs.Writing.{unless_failing}
 use Rattle.writable.specs.Faults.{fault_is}

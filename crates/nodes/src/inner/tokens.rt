@@ -1,6 +1,6 @@
 // The node that a token gives, its strings put into a room, and the kind of node that an end tag leaves.
 ghost use Rattle.std.specs.Prelude.{◌≡◌, ◌≤◌, ◌||◌, length};
-ghost use Rattle.std.proofs.Math.Option.{some};
+ghost use Rattle.std.specs.Prelude.{Some};
 ghost use Rattle.format.specs.Texts.{bytes_at};
 ghost use Rattle.format.specs.Bytes.{white, space};
 ghost use Rattle.format.specs.CueText.{collapsed};
@@ -137,7 +137,7 @@ pub fn put_classes(text: &[u8], token: Token, room: &mut [u8], at: usize) -> usi
 
 // Is the annotation of a node of this kind its value.
 fn has_value(kind: NodeKind) -> bool
-    ensures { result ≡ (is_kind (some kind) Kind.Voice || is_kind (some kind) Kind.Language) }
+    ensures { result ≡ (is_kind (Some kind) Kind.Voice || is_kind (Some kind) Kind.Language) }
 {
     same_kind(kind, NodeKind::Voice) || same_kind(kind, NodeKind::Language)
 }

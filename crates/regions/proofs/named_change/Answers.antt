@@ -2,7 +2,7 @@ use Prim.Native.Nat.{ℕ}
 use mathlib.Core.Path.{◌≡◌, ◌∙◌}
 use mathlib.Core.Bool.{Bool, cond, ◌&&◌}
 use mathlib.Core.List.{List, [], ◌∷◌}
-use mathlib.Core.Option.{Option-elim}
+use Rattle.std.specs.Option.{option_map_or}
 use native.Mathlib.Omega.{arith}
 use lib.ListN.{get_or}
 use Rattle.format.specs.Bytes.{ascii}
@@ -23,10 +23,10 @@ names = ascii "id" ∷ ascii "width" ∷ ascii "lines" ∷ ascii "regionanchor" 
 abbrev choices : List ℕ → List RegionChange
 choices x =
     RegionChange.Id
-    ∷ Option-elim (percentage x) RegionChange.Nothing RegionChange.Width
+    ∷ option_map_or RegionChange.Width (percentage x) RegionChange.Nothing
     ∷ lines_change (line_count x)
-    ∷ Option-elim (point x) RegionChange.Nothing RegionChange.Anchor
-    ∷ Option-elim (point x) RegionChange.Nothing RegionChange.Viewport
+    ∷ option_map_or RegionChange.Anchor (point x) RegionChange.Nothing
+    ∷ option_map_or RegionChange.Viewport (point x) RegionChange.Nothing
     ∷ cond (same x (ascii "up")) RegionChange.Scroll RegionChange.Nothing
     ∷ []
 

@@ -1,6 +1,6 @@
 use mathlib.Core.Path.{sym, ap, ◌∙◌}
 use mathlib.Core.List.{[]}
-use mathlib.Core.Option.{Option-elim}
+use Rattle.std.specs.Option.{option_map_or}
 use borrow.Author.Tests.{not-true, not-false}
 use Rattle.format.specs.Bytes.{ascii}
 use Rattle.format.specs.Texts.{same}
@@ -32,5 +32,5 @@ returns c =
     let is = fields_are args.line.now (sym c.count.ensures ∙ c.if-count-ne7.false) word in
     record {
       answer = c.read_fields.ensures.answer ∙ ap asked_is (sym is);
-      room = c.read_fields.ensures.room ∙ ap (λ o. room_with 0 (Option-elim o [] lent_text) args.room.now) (sym is);
+      room = c.read_fields.ensures.room ∙ ap (λ o. room_with 0 (option_map_or lent_text o []) args.room.now) (sym is);
     }

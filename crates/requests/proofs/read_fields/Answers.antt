@@ -1,6 +1,6 @@
 use mathlib.Core.Path.{sym, ap, ◌∙◌}
 use mathlib.Core.List.{[]}
-use mathlib.Core.Option.{Option-elim}
+use Rattle.std.specs.Option.{option_map_or}
 use Rattle.format.specs.Fields.{fields}
 use Rattle.format.specs.Requests.{lent_text}
 use Rattle.output.specs.Puts.{room_with}
@@ -20,5 +20,5 @@ returns-in-Good c =
     let is = numbers_are (fields args.line.now) c.in-Good.numbers (sym c.numbers_of.ensures ∙ c.in-Good.is) in
     record {
       answer = c.read_rest.ensures.answer ∙ ap asked_is (sym is);
-      room = c.read_rest.ensures.room ∙ ap (λ o. room_with 0 (Option-elim o [] lent_text) args.room.now) (sym is);
+      room = c.read_rest.ensures.room ∙ ap (λ o. room_with 0 (option_map_or lent_text o []) args.room.now) (sym is);
     }

@@ -1,5 +1,5 @@
 use mathlib.Core.Path.{◌≡◌, sym, ap}
-use mathlib.Core.Option.{some}
+use Rattle.std.specs.Prelude.{Some}
 use native.Mathlib.Omega.{arith}
 use borrow.Author.Tests.{lt-ltb, le-ltb}
 use Rattle.format.specs.Bytes.{digit}
@@ -26,7 +26,7 @@ returns-then-past-s c =
     record { is = both.0; answer = both.1 }
 
 -- all bytes are digits
-counted : (c : Else-past-s) → let s = c.args.s.now in line_count s ≡ some (number s)
+counted : (c : Else-past-s) → let s = c.args.s.now in line_count s ≡ Some (number s)
 counted c =
     let s = c.args.s.now in
     count-is s (omega arith) (all-run digit s (omega (arith, c.past.ensures, c.if-past-s.false, run_length digit s)))

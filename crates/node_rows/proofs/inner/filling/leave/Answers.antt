@@ -1,6 +1,6 @@
 use mathlib.Core.Path.{◌≡◌, refl, sym, ap, ◌∙◌}
 use mathlib.Core.Bool.{cond, ◌&&◌}
-use mathlib.Core.Option.{some}
+use Rattle.std.specs.Prelude.{Some}
 use Rattle.laws.proofs.Tests.{and-false}
 use Rattle.format.specs.Trees.{is_kind}
 use Rattle.format.specs.declared.kinds.NodeKind.{NodeKind}
@@ -15,7 +15,7 @@ returns-in_default c = rw (sym c.kind_of-own.ensures ∙ ap kind_is c.in_default
 
 leaves : (c : In-Is) → left_in c.args.rows.now c.args.node (kind_is c.args.named)
     ≡ cond (is_kind (kind_is c.args.named) (c.in-Is.kind)) (up_in c.args.rows.now c.args.node)
-    (cond (is_kind (kind_is c.args.named) NodeKind.Ruby && is_kind (some (c.in-Is.kind)) NodeKind.RubyText) (up_in c.args.rows.now (up_in c.args.rows.now c.args.node)) c.args.node)
+    (cond (is_kind (kind_is c.args.named) NodeKind.Ruby && is_kind (Some (c.in-Is.kind)) NodeKind.RubyText) (up_in c.args.rows.now (up_in c.args.rows.now c.args.node)) c.args.node)
 unfolding left_in left_of
 leaves c = rw (sym c.kind_of-own.ensures ∙ ap kind_is c.in-Is.is) refl
 
@@ -34,7 +34,7 @@ pub returns-then-not-same_kind : goal.returns-then-not-same_kind
 returns-then-not-same_kind c =
     let own = sym c.is_kind.ensures ∙ c.if-is_kind.false in
     let text = sym c.same_kind.ensures ∙ c.if-not-same_kind.true in
-    rw (leaves (goal.at.returns-then-not-same_kind c).In-Is, own, and-false (is_kind (kind_is c.args.named) NodeKind.Ruby) (is_kind (some c.in-Is.kind) NodeKind.RubyText) text) refl
+    rw (leaves (goal.at.returns-then-not-same_kind c).In-Is, own, and-false (is_kind (kind_is c.args.named) NodeKind.Ruby) (is_kind (Some c.in-Is.kind) NodeKind.RubyText) text) refl
 
 pub returns : goal.returns
 returns c =

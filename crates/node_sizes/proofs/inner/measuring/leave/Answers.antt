@@ -1,6 +1,6 @@
 use mathlib.Core.Path.{◌≡◌, refl, sym, ap, ◌∙◌}
 use mathlib.Core.Bool.{cond, ◌&&◌}
-use mathlib.Core.Option.{some}
+use Rattle.std.specs.Prelude.{Some}
 use lib.ListN.{drop}
 use Rattle.laws.proofs.Tests.{and-false}
 use Rattle.format.specs.Trees.{is_kind}
@@ -19,7 +19,7 @@ returns-in_default c =
 
 leaves : (c : In-Is) → leaving_kinds (kind_is c.args.named) (opened c.args.path c.args.words.now)
     ≡ cond (is_kind (kind_is c.args.named) (c.in-Is.kind)) (drop 1 (opened c.args.path c.args.words.now))
-    (cond (is_kind (kind_is c.args.named) NodeKind.Ruby && is_kind (some (c.in-Is.kind)) NodeKind.RubyText) (drop 1 (drop 1 (opened c.args.path c.args.words.now))) (opened c.args.path c.args.words.now))
+    (cond (is_kind (kind_is c.args.named) NodeKind.Ruby && is_kind (Some (c.in-Is.kind)) NodeKind.RubyText) (drop 1 (drop 1 (opened c.args.path c.args.words.now))) (opened c.args.path c.args.words.now))
 leaves c = leaves_top (kind_is c.args.named) (opened c.args.path c.args.words.now) (c.in-Is.kind) (sym c.top_kind-top.ensures ∙ ap kind_is c.in-Is.is)
 
 pub returns-then-is_kind : goal.returns-then-is_kind
@@ -37,7 +37,7 @@ pub returns-then-not-same_kind : goal.returns-then-not-same_kind
 returns-then-not-same_kind c =
     let own = sym c.is_kind.ensures ∙ c.if-is_kind.false in
     let text = sym c.same_kind.ensures ∙ c.if-not-same_kind.true in
-    record { is = rw (leaves (goal.at.returns-then-not-same_kind c).In-Is, own, and-false (is_kind (kind_is c.args.named) NodeKind.Ruby) (is_kind (some c.in-Is.kind) NodeKind.RubyText) text) refl; holds = c.requires }
+    record { is = rw (leaves (goal.at.returns-then-not-same_kind c).In-Is, own, and-false (is_kind (kind_is c.args.named) NodeKind.Ruby) (is_kind (Some c.in-Is.kind) NodeKind.RubyText) text) refl; holds = c.requires }
 
 pub returns : goal.returns
 returns c =

@@ -3,7 +3,7 @@ use native.Mathlib.Omega.{arith}
 use Prim.Native.Nat.{ℕ}
 use mathlib.Core.List.{List, [], ◌∷◌}
 use lib.ListN.{get_or}
-use mathlib.Core.Option.{Option, none, some}
+use Rattle.std.specs.Prelude.{Option, None, Some}
 use Rattle.format.specs.Trees.{kind_named}
 use Rattle.format.specs.declared.kinds.NodeKind.{NodeKind}
 use Rattle.format.specs.Bytes.{ascii}
@@ -17,14 +17,14 @@ abbrev names : List (List ℕ)
 names = ascii "c" ∷ ascii "i" ∷ ascii "b" ∷ ascii "u" ∷ ascii "ruby" ∷ ascii "rt" ∷ ascii "v" ∷ ascii "lang" ∷ []
 
 abbrev choices : List (Option NodeKind)
-choices = some NodeKind.Class ∷ some NodeKind.Italic ∷ some NodeKind.Bold ∷ some NodeKind.Underline ∷ some NodeKind.Ruby ∷ some NodeKind.RubyText ∷ some NodeKind.Voice ∷ some NodeKind.Language ∷ []
+choices = Some NodeKind.Class ∷ Some NodeKind.Italic ∷ Some NodeKind.Bold ∷ Some NodeKind.Underline ∷ Some NodeKind.Ruby ∷ Some NodeKind.RubyText ∷ Some NodeKind.Voice ∷ Some NodeKind.Language ∷ []
 
 -- the choice that has this index
-indexed : (c : After-index_of) → get_or choices c.index_of.result none ≡ kind_named c.args.name.now
+indexed : (c : After-index_of) → get_or choices c.index_of.result None ≡ kind_named c.args.name.now
 unfolding split_list_at before on_first kind_named
 indexed c =
     let args = c.args in
-    choice_at names choices none args.name.now c.index_of.result c.index_of.ensures
+    choice_at names choices None args.name.now c.index_of.result c.index_of.ensures
 
 pub returns-in-0 : goal.returns-in-0
 returns-in-0 c = rw c.in-0.is at (indexed (goal.at.returns-in-0 c).After-index_of)
@@ -53,4 +53,4 @@ returns-in-7 c = rw c.in-7.is at (indexed (goal.at.returns-in-7 c).After-index_o
 pub returns-in_default : goal.returns-in_default
 returns-in_default c =
     let i = c.index_of.result in
-    no_choice choices none i (omega arith) ∙ indexed (goal.at.returns-in_default c).After-index_of
+    no_choice choices None i (omega arith) ∙ indexed (goal.at.returns-in_default c).After-index_of
