@@ -17,7 +17,6 @@ use Rattle.format.specs.declared.settings.PositionAlign.TheVariants as PositionA
 use Rattle.format.specs.declared.settings.Align.TheVariants as Align
 use Rattle.format.specs.declared.regions.Scroll.TheVariants as Scroll
 use Rattle.format.specs.declared.regions.Region.{Region}
-use Rattle.format.specs.declared.rows.RegionIndex.TheVariants as RegionIndex
 use Rattle.format.specs.declared.rows.CueEntry.{CueEntry}
 use Rattle.format.specs.declared.rows.LineSpan.{LineSpan}
 
@@ -35,7 +34,7 @@ cue_example =
         size = 90;
         align = Align.Right;
       };
-      region = RegionIndex.At 4;
+      region = Some 4;
     }
 
 abbrev lines_example : LineSpan

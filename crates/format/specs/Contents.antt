@@ -9,7 +9,6 @@ use Rattle.format.specs.declared.settings.Settings.{Settings}
 use Rattle.format.specs.declared.regions.RegionSettings.{RegionSettings}
 use Rattle.format.specs.declared.regions.Region.{Region}
 use Rattle.format.specs.declared.rows.CueEntry.{CueEntry}
-use Rattle.format.specs.declared.rows.RegionIndex.{RegionIndex}
 
 -- "a cue's contents are its identifier, times, text and settings (…, the region as an index in the list)"
 pub record CueContents : Type 0 where
@@ -54,10 +53,6 @@ contents l =
     }
 
 -- the contents of entries, whose parts are parts of a text
-unfoldable pub option_of : RegionIndex → Option ℕ
-option_of RegionIndex.None = None
-option_of (RegionIndex.At i) = Some i
-
 unfoldable pub cue_of_entry : List ℕ → CueEntry → CueContents
 cue_of_entry s e =
     record {
@@ -66,7 +61,7 @@ cue_of_entry s e =
       end = e.end;
       text = bytes_at s e.text.from e.text.to;
       settings = e.settings;
-      region = option_of e.region;
+      region = e.region;
     }
 
 unfoldable pub region_of_entry : List ℕ → Region → RegionContents

@@ -1,6 +1,6 @@
 -- The request line of `mend`, and what mending answers. What is quoted is README's, of that line.
-use Rattle.std.specs.Prelude.{ℕ, ◌+◌, Bool, cond, not, ◌&&◌, ◌||◌, List, [], ◌++◌, eqb, ltb, length, get_or}
-use Rattle.std.specs.Prelude.{Option, None, Some, option_and_then, option_map}
+use Rattle.std.specs.Prelude.{ℕ, ◌+◌, Bool, cond, not, ◌&&◌, ◌||◌, List, [], ◌∷◌, ◌++◌, eqb, ltb, length, get_or}
+use Rattle.std.specs.Prelude.{Option, None, Some, option_and_then, option_map, Result, Ok, Err}
 use Rattle.std.specs.Option.{option_map_or}
 use Rattle.format.specs.Limits.{max_request, max_mended}
 use Rattle.format.specs.Bytes.{ascii, lf}
@@ -9,14 +9,13 @@ use Rattle.format.specs.Fields.{fields, field_number, unescaped}
 use Rattle.format.specs.Tokens.{Flagged}
 use Rattle.format.specs.CueSettings.{CueSettings, cue_settings}
 use Rattle.format.specs.Rows.{new_cue_words}
-use Rattle.format.specs.Answers.{Answer, refused, if_accepted, placed}
+use Rattle.format.specs.Answers.{Answer, accepted, refused, if_accepted, placed}
 use Rattle.format.specs.Converting.{converted_room}
-use Rattle.format.specs.Replacing.{new_file, replacing_is, replacing}
-use Rattle.format.specs.declared.Mending.{Mending}
+use Rattle.format.specs.Replacing.{new_file, replace_error, replacing}
+use Rattle.format.specs.declared.errors.MendError.{MendError}
 use Rattle.format.specs.declared.settings.Settings.{Settings}
 use Rattle.format.specs.declared.settings.Span.{Span}
 use Rattle.format.specs.declared.rows.CueEntry.{CueEntry}
-use Rattle.format.specs.declared.rows.RegionIndex.TheVariants as RegionIndex
 
 -- a request: the number of the cue to be replaced, and the new cue, its region by name
 pub record Request : Type 0 where
@@ -87,15 +86,19 @@ name_span q = record { from = length q.id + length q.text; to = length q.id + le
 
 unfoldable pub lent_entry : Request → CueEntry
 lent_entry q =
-    record { id = id_span q; start = q.start; end = q.end; text = text_span q; settings = q.settings; region = RegionIndex.None }
+    record { id = id_span q; start = q.start; end = q.end; text = text_span q; settings = q.settings; region = None }
 
 unfoldable pub lent_row : Request → List ℕ
 lent_row q = new_cue_words (lent_entry q) (name_span q)
 
 -- the number and the values of each case; a bad request has none
-unfoldable pub mending_is : Mending → Option Answer
-mending_is Mending.BadRequest = None
-mending_is (Mending.Asked answer) = Some (replacing_is answer)
+unfoldable pub mend_error : MendError → Option Answer
+mend_error MendError.BadRequest = None
+mend_error (MendError.Replace e) = Some (replace_error e)
+
+unfoldable pub mending_is : Result ℕ MendError → Option Answer
+mending_is (Ok n) = Some (accepted (n ∷ []))
+mending_is (Err e) = mend_error e
 
 -- is there more than the raw file may have; `longer` says that the input goes on
 unfoldable pub too_long : List ℕ → Bool → Bool

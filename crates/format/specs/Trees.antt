@@ -1,7 +1,7 @@
 -- A cue text's nodes: source document 000, section 6.4, "WebVTT cue text parsing rules", as document 01's flat list in order of appearance;
 -- how their strings stand in the lent room and their rows in the lent table, and what such a row says; and what reading a cue text answers.
 use Rattle.std.specs.Prelude.{ℕ, zero, suc, ◌+◌, ◌≤◌, ◌≡◌, Bool, true, false, cond, not, ◌&&◌, ◌||◌, List, [], ◌∷◌, ◌++◌, map, eqb, ltb, length, drop}
-use Rattle.std.specs.Prelude.{Option, None, Some}
+use Rattle.std.specs.Prelude.{Option, None, Some, Result, Ok, Err}
 use Rattle.format.specs.Bytes.{ascii, full_stop}
 use Rattle.format.specs.Limits.{max_text}
 use Rattle.format.specs.Texts.{same, is_empty, bytes_at}
@@ -11,7 +11,8 @@ use Rattle.format.specs.CueText.{Token, string_token, start_tag, end_tag, timest
 use Rattle.format.specs.Rows.{word}
 use Rattle.format.specs.Answers.{Answer, accepted, refused, if_accepted, placed}
 use Rattle.format.specs.declared.kinds.NodeKind.{NodeKind}
-use Rattle.format.specs.declared.Tree.{Tree}
+use Rattle.format.specs.declared.TreeSize.{TreeSize}
+use Rattle.format.specs.declared.errors.TreeError.{TreeError}
 
 -- a node: the index of its parent, none where that is the root; its classes in one string; its value, of a string, a voice or a language; a
 -- timestamp's milliseconds
@@ -211,13 +212,16 @@ pub record TreeStands (s room : List ℕ) (rows : List (List ℕ)) : Type 0 wher
   pub bound : length room ≤ length s
 
 -- the number and the values of each case: the counts of nodes and of the room's bytes; refusal 2 with the length, 6 with the count
-unfoldable pub tree_is : Tree → Answer
-tree_is (Tree.Nodes count used) = accepted (count ∷ used ∷ [])
-tree_is Tree.TextTooLong = refused 1 []
-tree_is (Tree.TextNotPlainAt i) = refused 3 (i ∷ [])
-tree_is Tree.OverLimit = refused 5 []
-tree_is (Tree.RoomTooShort n) = refused 2 (n ∷ [])
-tree_is (Tree.TableTooShort n) = refused 6 (n ∷ [])
+unfoldable pub tree_error : TreeError → Answer
+tree_error TreeError.TooLong = refused 1 []
+tree_error (TreeError.NotPlainAt i) = refused 3 (i ∷ [])
+tree_error TreeError.OverLimit = refused 5 []
+tree_error (TreeError.RoomTooShort n) = refused 2 (n ∷ [])
+tree_error (TreeError.TableTooShort n) = refused 6 (n ∷ [])
+
+unfoldable pub tree_is : Result TreeSize TreeError → Answer
+tree_is (Ok n) = accepted (n.count ∷ n.used ∷ [])
+tree_is (Err e) = tree_error e
 
 -- what reading a cue text answers, with a room of this length and a table of this many rows: the checks 1, 3, 5, 2, 6 in this order
 unfoldable pub treeing : List ℕ → ℕ → ℕ → Answer

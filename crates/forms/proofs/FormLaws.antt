@@ -5,7 +5,7 @@ use mathlib.Core.Bool.{cond}
 use mathlib.Core.List.{List, [], ◌∷◌, ◌++◌, map, append_assoc, append-nil}
 use Rattle.std.specs.Prelude.{None, Some}
 use lib.ListN.{get_or}
-use Rattle.format.specs.Contents.{option_of, cue_of_entry, region_of_entry, region_of_row}
+use Rattle.format.specs.Contents.{cue_of_entry, region_of_entry, region_of_row}
 use Rattle.format.specs.Bytes.{ascii, lf, colon}
 use Rattle.format.specs.Texts.{is_empty, bytes_at}
 use Rattle.format.specs.Lines.{split, after_line_ends, join}
@@ -13,7 +13,6 @@ use Rattle.format.specs.Writable.{names_of}
 use Rattle.format.specs.Written.{setting, written_region_name, written_settings, written_timing, lines_of, cue_lines, written_id, region_lines}
 use Rattle.format.specs.declared.regions.Region.{Region}
 use Rattle.format.specs.declared.rows.CueEntry.{CueEntry}
-use Rattle.format.specs.declared.rows.RegionIndex.{RegionIndex}
 use Rattle.laws.proofs.Lines.{splits}
 use Rattle.laws.proofs.Standing.{ended_append}
 use Rattle.roundtrip.proofs.Cues.{names_of_lem}
@@ -55,12 +54,12 @@ module _ (s : List ℕ) (regions : List (List ℕ)) (e : CueEntry) where
   abbrev lines : List ℕ
   lines = join (cue_lines (map (region_of_row s) regions) (cue_of_entry s e))
 
-  pub cue_alone : e.region ≡ RegionIndex.None → lines ≡ cue_form s e None
-  unfolding cue_lines cue_of_entry cue_form timing_form settings_form named_region written_timing written_settings written_region_name option_of
+  pub cue_alone : e.region ≡ None → lines ≡ cue_form s e None
+  unfolding cue_lines cue_of_entry cue_form timing_form settings_form named_region written_timing written_settings written_region_name
   cue_alone k = rw k
 
-  pub cue_regional : (i : ℕ) → e.region ≡ RegionIndex.At i → lines ≡ cue_form s e (Some (get_or (names_of s regions) i []))
-  unfolding cue_lines cue_of_entry cue_form timing_form settings_form named_region written_timing written_settings written_region_name option_of
+  pub cue_regional : (i : ℕ) → e.region ≡ Some i → lines ≡ cue_form s e (Some (get_or (names_of s regions) i []))
+  unfolding cue_lines cue_of_entry cue_form timing_form settings_form named_region written_timing written_settings written_region_name
   cue_regional i k = rw (k, names_of_lem s regions)
 
 -- a setting on a line of its own

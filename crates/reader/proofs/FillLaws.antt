@@ -16,7 +16,7 @@ use Rattle.format.specs.Lists.{Cue, Item, nothing, cue, style, region, is_cue, i
 use Rattle.format.specs.Contents.{region_of_entry}
 use Rattle.format.specs.Writable.{names_of}
 use Rattle.format.specs.Replacing.{region_asked}
-use Rattle.format.specs.Rows.{cue_words, region_words, style_words, ids, index_is, region_for, entry_is, cue_rows, region_rows, style_rows, stored_cues}
+use Rattle.format.specs.Rows.{cue_words, region_words, style_words, ids, region_for, entry_is, cue_rows, region_rows, style_rows, stored_cues}
 use Rattle.format.specs.LineNumbers.{block_of_cue, cue_blocks_from, cue_blocks, line_span, line_spans}
 use Rattle.format.specs.declared.rows.LineSpan.{LineSpan}
 use Rattle.laws.proofs.Tests.{or_true, or_first, or_second}
@@ -43,7 +43,7 @@ region-found :
     (s : List ℕ) (rs : List RegionValues) (name : Part)
     → All (λ r. Stands s r.id) rs
     → Stands s name
-    → asked_at s (region_rows rs) (span_is name) ≡ index_is (region_for rs name)
+    → asked_at s (region_rows rs) (span_is name) ≡ (region_for rs name)
 unfolding region_for region_asked
 region-found s rs name all h = rw (stands_bytes s name h, rows-ids s rs all)
 

@@ -22,7 +22,6 @@ use Rattle.format.specs.Replacing.{name_lent, region_asked, with_region, cue_ask
 use Rattle.laws.proofs.Tests.{by-test, and_left, and_right, absent}
 use Rattle.laws.proofs.Standing.{All}
 use Rattle.laws.proofs.Rows.{row-signed}
-use Rattle.format.specs.declared.rows.RegionIndex.TheVariants as RegionIndex
 use Rattle.laws.proofs.Lines.{unbroken, split-join}
 use Rattle.laws.proofs.Names.{found}
 use Rattle.laws.proofs.Tokens.{inside as black}
@@ -102,7 +101,7 @@ module _ (s t w : List ℕ) (e : new_cue_fails t w (region_names s) ≡ None) wh
   asked_writable =
       let allowed = region_allowed names (name_lent t w) passed.1.1.1.1.1.0 in
       let tests = all_front (λ t. t ≡ true) (cue_tests lent) (new_test6 t w names ∷ []) passed.1 in
-      tests_writable rs (region_asked names (name_lent t w)) lent tests (row-signed RegionIndex.None w)
+      tests_writable rs (region_asked names (name_lent t w)) lent tests (row-signed None w)
       (rw names_are allowed) (λ i. rw names_are (dark i))
 
   -- its written form is plain, is not empty and does not begin with a line end

@@ -198,20 +198,26 @@ pub lent-size : (q : Request) → length (lent_text q) ≡ length q.id + length 
 unfolding lent_text
 lent-size q = length-append (q.id ++ q.text) q.region ∙ ap (λ n. n + length q.region) (length-append q.id q.text)
 
+no_request : {A : Type 0} (q : Request) → ◌≡◌ {A = Option Request} None (Some q) → A
+no_request q e = let z : ◌≡◌ {A = ℕ} 0 1 = cc in absurd (omega arith)
+
+same_request : (p q : Request) → ◌≡◌ {A = Option Request} (Some p) (Some q) → p ≡ q
+same_request p q e = cc
+
 with_size :
     (a b c : Option ℕ) (i : Option (List ℕ)) (s : Flagged CueSettings) (t : Option (List ℕ)) (q : Request)
     → request_with a b c i s t ≡ Some q
     → length (lent_text q) ≡ length (text_of i) + length (text_of t) + length s.value.region.bytes
 unfolding request_with
-with_size None b c i s t q e = absurd (none-ne-some q e)
-with_size (Some n) None c i s t q e = absurd (none-ne-some q e)
-with_size (Some n) (Some from) None i s t q e = absurd (none-ne-some q e)
-with_size (Some n) (Some from) (Some to) None s t q e = absurd (none-ne-some q e)
-with_size (Some n) (Some from) (Some to) (Some x) s None q e = absurd (none-ne-some q e)
+with_size None b c i s t q e = no_request q e
+with_size (Some n) None c i s t q e = no_request q e
+with_size (Some n) (Some from) None i s t q e = no_request q e
+with_size (Some n) (Some from) (Some to) None s t q e = no_request q e
+with_size (Some n) (Some from) (Some to) (Some x) s None q e = no_request q e
 with_size (Some n) (Some from) (Some to) (Some x) s (Some y) q e =
     by-test s.over
-    (λ over. absurd (none-ne-some q (rw over at e)))
-    (λ under. lent-size q ∙ ap (λ (p : Request). length p.id + length p.text + length p.region) (sym (some-injective _ q (rw under at e))))
+    (λ over. no_request q (rw over at e))
+    (λ under. lent-size q ∙ ap (λ (p : Request). length p.id + length p.text + length p.region) (sym (same_request _ q (rw under at e))))
 
 pub lent_fits : (line : List ℕ) (q : Request) → request line ≡ Some q → length (lent_text q) ≤ length line
 unfolding request request_of name_of
@@ -220,4 +226,4 @@ lent_fits line q e =
     (λ y. let fs = fields line in
     let size = with_size (field_number (get_or fs 1 [])) (field_number (get_or fs 2 [])) (field_number (get_or fs 3 [])) (unescaped (get_or fs 4 [])) (settings_field (get_or fs 5 [])) (unescaped (get_or fs 6 [])) q (rw y at e) in
     omega (arith, size, fields_fit line))
-    (λ n. absurd (none-ne-some q (rw n at e)))
+    (λ n. no_request q (rw n at e))

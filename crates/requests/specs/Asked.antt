@@ -4,7 +4,6 @@ use Rattle.std.specs.Prelude.{Option, None, Some}
 use Rattle.format.specs.Fields.{fields, field_number, unescaped}
 use Rattle.format.specs.Requests.{Request, settings_field, request_with, name_span, lent_entry}
 use Rattle.format.specs.declared.settings.Settings.{Settings}
-use Rattle.format.specs.declared.rows.RegionIndex.TheVariants as RegionIndex
 use Rattle.fields.specs.Fields.{number_is, length_is}
 use Rattle.fields.specs.declared.FieldNumber.{FieldNumber}
 use Rattle.fields.specs.declared.FieldLength.{FieldLength}
@@ -66,7 +65,7 @@ asking_is n settings l name =
             end = n.end;
             text = record { from = l.id; to = l.id + l.text };
             settings = settings;
-            region = RegionIndex.None;
+            region = None;
           };
       region = record { from = l.id + l.text; to = l.id + l.text + name };
     }

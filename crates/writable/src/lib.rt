@@ -8,7 +8,7 @@ ghost use Rattle.std.specs.Prelude.{◌*◌, ◌≡◌, cond, not, ◌&&◌, [],
 ghost use Rattle.format.specs.Limits.{max_line};
 ghost use Rattle.format.specs.Texts.{bytes_at};
 ghost use Rattle.format.specs.Rows.{cue_entry};
-ghost use Rattle.format.specs.Contents.{option_of, region_of_entry, cue_of_row};
+ghost use Rattle.format.specs.Contents.{region_of_entry, cue_of_row};
 ghost use Rattle.format.specs.Writable.{first_failing, at_most100, is_start, is_auto, line_fits, position_fits, names_of, cue_test1, cue_test2, cue_test3, cue_test4, cue_test5, cue_test6, cue_tests, cue_fails, region_test1, region_test3, region_tests, region_fails, style_fails};
 ghost use Rattle.format.specs.Writing.{first_in};
 ghost use Rattle.lookup.specs.Known.{AllLast};
@@ -192,7 +192,7 @@ fn numbers_fit(row: CueRow) -> bool
 fn region_fits(text: &[u8], regions: &[RegionRow], region: RegionIndex, known: &mut [usize]) -> bool
     requires known_len { length known.old ≡ 256 }
     requires all_last { AllLast (names_of text.now regions.now) known.old }
-    ensures answer { result ≡ cue_test6 (names_of text.now regions.now) (option_of region) }
+    ensures answer { result ≡ cue_test6 (names_of text.now regions.now) (region) }
     ensures known { AllLast (names_of text.now regions.now) known.new }
 {
     match region {

@@ -1,3 +1,4 @@
+use Rattle.std.specs.Prelude.{Some}
 use Prim.Native.Nat.{◌+◌, ◌-◌, ◌<◌}
 use mathlib.Core.Path.{◌≡◌, refl, sym, ap, ◌∙◌}
 use mathlib.Core.Bool.{cond}
@@ -8,7 +9,6 @@ use Rattle.format.specs.Texts.{same, bytes_at}
 use Rattle.format.specs.Contents.{region_of_entry}
 use Rattle.format.specs.Writable.{names_of}
 use Rattle.format.specs.LookingUp.{look_up}
-use Rattle.format.specs.declared.rows.RegionIndex.TheVariants as RegionIndex
 use Rattle.laws.proofs.LookingUp.{more, look_up-start, look_up_turn, look_up-end, look_up-last}
 use Rattle.lookup.proofs.NameLaws.{names_length, name_at_lem}
 use borrow.Author.Rules.{rules}
@@ -39,7 +39,7 @@ turn :
     let n = length a.regions.now in
     let i = c.loop-i.i - 1 in
     look_up a.name.now names
-    ≡ cond c.is_named.result (record { index = RegionIndex.At i; seen = n - i }) (more (n - i) (look_up a.name.now (take i names)))
+    ≡ cond c.is_named.result (record { index = Some i; seen = n - i }) (more (n - i) (look_up a.name.now (take i names)))
 unfolding region_of_entry
 turn c =
     let a = c.args in
@@ -54,7 +54,7 @@ turn c =
     ∙ sym (c.is_named.ensures ∙ ap (λ p. same (bytes_at s p.from p.to) x) c.id.ensures) in
     rw next at c.loop-i.invariant.1
     ∙ look_up_turn x names n (names_length s a.regions.now) i (omega arith)
-    ∙ ap (λ t. cond t (record { index = RegionIndex.At i; seen = n - i }) (more (n - i) (look_up x (take i names)))) own
+    ∙ ap (λ t. cond t (record { index = Some i; seen = n - i }) (more (n - i) (look_up x (take i names)))) own
 
 pub returns-then-is_named : goal.returns-then-is_named
 returns-then-is_named c =

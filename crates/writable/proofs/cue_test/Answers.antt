@@ -4,7 +4,7 @@ use mathlib.Core.Bool.{Bool, not}
 use mathlib.Core.List.{List, [], ◌∷◌}
 use native.Mathlib.Omega.{arith}
 use Rattle.format.specs.Rows.{cue_entry}
-use Rattle.format.specs.Contents.{option_of, cue_of_entry, cue_of_row}
+use Rattle.format.specs.Contents.{cue_of_entry, cue_of_row}
 use Rattle.format.specs.Writable.{first_failing, names_of, cue_test1, cue_test6, cue_tests, cue_fails}
 use Rattle.writable.proofs.FaultLaws.{failed, passed, fails_front, fails-after}
 use Rattle.writable.proofs.cue_test.Goals as goal
@@ -15,7 +15,7 @@ module _ (s : List ℕ) (regions : List (List ℕ)) (row : List ℕ) where
   fields = cue_test1 s row ∷ cue_tests (cue_of_row s row)
 
   abbrev last : List Bool
-  last = cue_test6 (names_of s regions) (option_of (cue_entry row).region) ∷ []
+  last = cue_test6 (names_of s regions) ((cue_entry row).region) ∷ []
 
 -- what is left to test where the fields pass
 after-fields :
@@ -31,13 +31,13 @@ after-fields c =
 region_is_lem :
     (c : After-region_fits)
     → let a = c.args in
-    c.region_fits.result ≡ cue_test6 (names_of a.text.now a.regions.now) (option_of (cue_entry a.row).region)
+    c.region_fits.result ≡ cue_test6 (names_of a.text.now a.regions.now) ((cue_entry a.row).region)
 region_is_lem c =
     let a = c.args in
-    c.region_fits.ensures.answer ∙ ap (λ r. cue_test6 (names_of a.text.now a.regions.now) (option_of r)) c.region.ensures
+    c.region_fits.ensures.answer ∙ ap (λ r. cue_test6 (names_of a.text.now a.regions.now) (r)) c.region.ensures
 
 pub returns-then-fields-ne0 : goal.returns-then-fields-ne0
-unfolding cue_fails cue_of_entry option_of
+unfolding cue_fails cue_of_entry
 returns-then-fields-ne0 c =
     let a = c.args in
     let found = c.cue_fields_test-fields.ensures in

@@ -1,9 +1,8 @@
-use Rattle.format.specs.Contents.{option_of}
 use Rattle.format.specs.Writable.{cue_test6}
 use Rattle.writable.proofs.region_fits.Goals as goal
 
 pub returns-in-None : goal.returns-in-None
-unfolding cue_test6 option_of
+unfolding cue_test6
 returns-in-None c =
     record {
       answer = rw c.in-None.is;
@@ -11,7 +10,7 @@ returns-in-None c =
     }
 
 pub returns-in-At : goal.returns-in-At
-unfolding cue_test6 option_of
+unfolding cue_test6
 returns-in-At c =
     record {
       answer = rw c.in-At.is (c.is_known_last.ensures.answer);
