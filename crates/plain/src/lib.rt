@@ -7,41 +7,37 @@ ghost use Rattle.format.specs.Plain.{drop_bom, to_plain, first_not_plain};
 ghost use Rattle.format.specs.Answers.{placed};
 ghost use Rattle.format.specs.Converting.{converted_is, converting, converted_room, plainness_is, testing};
 
-use format::{Converted, Plainness};
+use format::ConvertError;
 use pieces::Piece;
 
 mod pieces;
 mod sequences;
 
 // The plain text of a raw file, at the start of the room.
-pub fn convert(raw: &[u8], room: &mut [u8]) -> Converted
+pub fn convert(raw: &[u8], room: &mut [u8]) -> Result<usize, ConvertError>
     ensures answer { converted_is result ≡ converting raw.now (length room.old) }
     ensures room { room.new ≡ converted_room raw.now room.old }
 {
     if raw.len() > format::MAX_FILE {
-        return Converted::TooLong;
+        return Err(ConvertError::TooLong);
     }
     let from = mark_len(raw);
     // A room of three times the length is always enough, and then the bytes are gone over once.
     if room.len() < 3 * raw.len() {
         let need = measure(raw, from);
         if room.len() < need {
-            return Converted::RoomTooShort(need);
+            return Err(ConvertError::RoomTooShort(need));
         }
     }
-    Converted::Text(write(raw, from, room))
+    Ok(write(raw, from, room))
 }
 
-// The first place of a text that holds CR, NUL or a byte of no well-formed sequence.
-pub fn first_not_plain(text: &[u8]) -> Plainness
+// The first place of a text that holds CR, NUL or a byte of no well-formed sequence; none where the text is plain.
+pub fn first_not_plain(text: &[u8]) -> Option<usize>
     ensures { plainness_is result ≡ testing text.now }
 {
     let at = plain_len(text);
-    if at < text.len() {
-        Plainness::NotPlainAt(at)
-    } else {
-        Plainness::Plain
-    }
+    if at < text.len() { Some(at) } else { None }
 }
 
 // The length of the byte order mark that the file starts with: 3, or 0 where it has none.

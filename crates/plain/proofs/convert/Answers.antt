@@ -7,7 +7,7 @@ use borrow.Author.Tests.{lt-ltb, le-ltb}
 use Rattle.format.specs.Limits.{max_file}
 use Rattle.format.specs.Plain.{to_plain, plain_text}
 use Rattle.format.specs.Answers.{accepted, refused, if_accepted, placed}
-use Rattle.format.specs.Converting.{converted_is, converting, converted_room}
+use Rattle.format.specs.Converting.{convert_error, converted_is, converting, converted_room}
 use Rattle.laws.proofs.PlainText.{plain_text-length}
 use Rattle.plain.proofs.convert.Goals as goal
 use Rattle.plain.proofs.convert.Goals.{After-mark_len-from, After-measure-need, Joined-room-raw, else-room-raw, then-room-raw+else-room-need}
@@ -34,7 +34,7 @@ unfolding converted_room if_accepted
 acceptance raw room vs e = rw e
 
 pub returns-then-raw-gt-MAX_FILE : goal.returns-then-raw-gt-MAX_FILE
-unfolding converted_is
+unfolding converted_is convert_error
 returns-then-raw-gt-MAX_FILE c =
     let args = c.args in
     let long = too_long_lem args.raw.now (length args.room.now) c.if-raw-gt-MAX_FILE.true in
@@ -56,7 +56,7 @@ measured : (c : After-measure-need) → (from_whole : let raw = c.args.raw.now i
 measured c from_whole = c.measure-need.ensures ∙ from_whole
 
 pub returns-then-room-need : goal.returns-then-room-need
-unfolding converted_is
+unfolding converted_is convert_error
 returns-then-room-need c =
     let args = c.args in
     let need = measured (goal.at.returns-then-room-need c).After-measure-need (whole (goal.at.returns-then-room-need c).After-mark_len-from) in
