@@ -61,8 +61,5 @@ pub fn read_only_time(text: &[u8]) -> Stamp
 pub fn least(a: usize, b: usize) -> usize
     ensures { result ≡ min a b }
 {
-    if a < b {
-        return a;
-    }
-    b
+    a.min(b)
 }

@@ -9,18 +9,17 @@ use super::bytes::ByteKind;
 // Above every limit: a number that is greater is held at this.
 const CAP: u64 = 1_000_000;
 
+fn digit_value(b: u8) -> u64
+    ensures { result ≡ b - 0x30 }
+{
+    b.saturating_sub(b'0') as u64
+}
+
 // The value of the digit at `i`, 0 after the end.
 fn digit_at(ds: &[u8], i: usize) -> u64
     ensures { (result ≡ get_or ds.now i 0 - 0x30) × (result ≤ 207) }
 {
-    if ds.len() <= i {
-        return 0;
-    }
-    let b = ds[i];
-    if b < b'0' {
-        return 0;
-    }
-    (b - b'0') as u64
+    ds.get(i).map_or(0, |&b| digit_value(b))
 }
 
 // Digits as a base-ten integer, held at CAP.
@@ -28,13 +27,8 @@ pub(crate) fn number_of(ds: &[u8]) -> u64
     ensures { result ≡ min (number ds.now) cap }
 {
     let mut v: u64 = 0;
-    let mut i = 0;
-    while i < ds.len() {
-        v = v * 10 + digit_at(ds, i);
-        if CAP < v {
-            v = CAP;
-        }
-        i += 1;
+    for &d in ds {
+        v = CAP.min(v * 10 + digit_value(d));
     }
     v
 }

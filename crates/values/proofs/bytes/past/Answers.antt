@@ -1,7 +1,9 @@
 use mathlib.Core.Path.{sym, ap, ◌∙◌}
 use native.Mathlib.Omega.{arith}
+use lib.Dec.{leb}
 use lib.ListN.{length}
-use borrow.Author.Tests.{not-true, not-false}
+use borrow.Author.Tests.{not-true, not-false, leb-true, leb-false}
+use Rattle.laws.proofs.Tests.{by-test}
 use Rattle.laws.proofs.Runs.{run-stop, run-next, run_end}
 use Rattle.values.specs.Runs.{passes}
 use Rattle.values.proofs.bytes.past.Goals as goal
@@ -20,5 +22,9 @@ loop-i-preserved c =
 
 pub returns : goal.returns
 returns c =
-    let args = c.args in
-    omega (arith, ap length (run_end (passes args.kind) args.s.now c.loop-i.i (omega arith)))
+    let s = c.args.s.now in
+    let at = c.args.at in
+    let fits = passes c.args.kind in
+    by-test (leb at (length s))
+    (λ y. omega (arith, leb-true at (length s) y, ap length (run_end fits s c.loop-i.i (omega arith))))
+    (λ n. let l = leb-false at (length s) n in omega (arith, ap length (run_end fits s at (omega arith))))
