@@ -3,7 +3,7 @@ use Rattle.std.specs.Prelude.{ℕ, cond, List, [], ◌∷◌, ltb, length}
 use Rattle.std.specs.Prelude.{Option, None, Some, Result, Ok, Err}
 use Rattle.format.specs.Limits.{max_file}
 use Rattle.format.specs.Plain.{plain_text, first_not_plain}
-use Rattle.format.specs.Answers.{Answer, accepted, refused, if_accepted, placed}
+use Rattle.format.specs.Answers.{Answer, accepted, refused, if_accepted, placed, answered, length_told}
 use Rattle.format.specs.declared.errors.ConvertError.{ConvertError}
 
 -- the number and the values of each case
@@ -13,8 +13,7 @@ convert_error (ConvertError.RoomTooShort n) = refused 2 (n ∷ [])
 
 -- the text's length, where it accepts
 unfoldable pub converted_is : Result ℕ ConvertError → Answer
-converted_is (Ok n) = accepted (n ∷ [])
-converted_is (Err e) = convert_error e
+converted_is = answered length_told convert_error
 
 -- what converting answers: the checks 1, 2 in this order, else the text's length
 unfoldable pub converting : List ℕ → ℕ → Answer

@@ -3,7 +3,7 @@ use Rattle.std.specs.Prelude.{ℕ, cond, List, [], ◌∷◌, ltb, length, get_o
 use Rattle.std.specs.Prelude.{Result, Ok, Err}
 use Rattle.format.specs.Contents.{cue_of_row}
 use Rattle.format.specs.Writable.{cue_test1}
-use Rattle.format.specs.Answers.{Answer, accepted, refused, if_accepted}
+use Rattle.format.specs.Answers.{Answer, accepted, refused, if_accepted, answered}
 use Rattle.format.specs.declared.errors.PartError.{PartError}
 
 -- the number and the values of each case; a cue that is not writable is of list 2, and fails test 1
@@ -12,8 +12,7 @@ part_error (PartError.NoSuchCue count) = refused 7 (count ∷ [])
 part_error (PartError.NotWritable number) = refused 8 (2 ∷ number ∷ 1 ∷ [])
 
 unfoldable pub part_answer_is : Result Unit PartError → Answer
-part_answer_is (Ok part) = accepted []
-part_answer_is (Err e) = part_error e
+part_answer_is = answered (λ part. accepted []) part_error
 
 -- what asking for a part of the cue with this number answers: the checks 7, 8
 unfoldable pub asking : List ℕ → List (List ℕ) → ℕ → Answer

@@ -5,7 +5,7 @@ use Rattle.format.specs.Limits.{max_text}
 use Rattle.format.specs.Plain.{plain_text, first_not_plain}
 use Rattle.format.specs.Blocks.{has_signature}
 use Rattle.format.specs.Lists.{items, Lists, lists, any_over}
-use Rattle.format.specs.Answers.{Answer, accepted, refused, refused_only_by, if_accepted, and_then, placed}
+use Rattle.format.specs.Answers.{Answer, accepted, refused, refused_only_by, if_accepted, and_then, placed, answered}
 use Rattle.format.specs.Converting.{convert_error, converting}
 use Rattle.format.specs.declared.Counts.{Counts}
 use Rattle.format.specs.declared.FileLists.{FileLists}
@@ -22,6 +22,9 @@ text_error TextError.OverLimit = refused 5 []
 unfoldable pub count_values : Counts → List ℕ
 count_values n = n.cues ∷ n.regions ∷ n.styles ∷ []
 
+unfoldable pub counts_told : Counts → Answer
+counts_told n = accepted (count_values n)
+
 unfoldable pub lists_error : ListsError → Answer
 lists_error (ListsError.Text e) = text_error e
 lists_error (ListsError.TablesTooShort n) = refused 6 (count_values n)
@@ -32,8 +35,7 @@ read_error (ReadError.NotPlainAt i) = refused 3 (i ∷ [])
 read_error (ReadError.Lists e) = lists_error e
 
 unfoldable pub reading_is : Result Counts ReadError → Answer
-reading_is (Ok n) = accepted (count_values n)
-reading_is (Err e) = read_error e
+reading_is = answered counts_told read_error
 
 -- refusal 6: "all counts needed"
 unfoldable pub counts : Lists → List ℕ
@@ -59,9 +61,11 @@ unfoldable pub read_file_error : ReadFileError → Answer
 read_file_error (ReadFileError.Convert e) = convert_error e
 read_file_error (ReadFileError.Lists e) = lists_error e
 
+unfoldable pub file_lists_told : FileLists → Answer
+file_lists_told f = accepted (count_values f.counts ++ f.text ∷ [])
+
 unfoldable pub file_reading_is : Result FileLists ReadFileError → Answer
-file_reading_is (Ok f) = accepted (count_values f.counts ++ f.text ∷ [])
-file_reading_is (Err e) = read_file_error e
+file_reading_is = answered file_lists_told read_file_error
 
 unfoldable pub file_reading : List ℕ → ℕ → ℕ → ℕ → ℕ → Answer
 file_reading raw room cues regions styles =

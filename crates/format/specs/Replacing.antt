@@ -12,7 +12,7 @@ use Rattle.format.specs.Lists.{items, lists, any_over}
 use Rattle.format.specs.LineNumbers.{cue_blocks, first_number, line_spans, LinesMoved}
 use Rattle.format.specs.Rows.{ids, new_cue_entry, new_cue_name}
 use Rattle.format.specs.Contents.{CueContents, Contents, contents, cue_of_entry}
-use Rattle.format.specs.Answers.{Answer, accepted, refused, if_accepted, and_then, file_answer, placed}
+use Rattle.format.specs.Answers.{Answer, accepted, refused, if_accepted, and_then, file_answer, placed, answered, length_told}
 use Rattle.format.specs.Converting.{convert_error, converting}
 use Rattle.format.specs.Reading.{text_error, ReadsAgain}
 use Rattle.format.specs.Writing.{not_writable, out_error}
@@ -131,8 +131,7 @@ replace_error ReplaceError.NoGap = refused 9 []
 replace_error (ReplaceError.Out e) = out_error e
 
 unfoldable pub replacing_is : Result ℕ ReplaceError → Answer
-replacing_is (Ok n) = accepted (n ∷ [])
-replacing_is (Err e) = replace_error e
+replacing_is = answered length_told replace_error
 
 unfoldable pub unless_test : Option ℕ → ℕ → Answer → Answer
 unless_test None number answer = answer

@@ -6,7 +6,7 @@ use Rattle.format.specs.Lists.{lists}
 use Rattle.format.specs.Contents.{contents}
 use Rattle.format.specs.Written.{written}
 use Rattle.format.specs.Rows.{region_rows, style_rows, stored_cues}
-use Rattle.format.specs.Answers.{Answer, accepted, refused, if_accepted, and_then, placed}
+use Rattle.format.specs.Answers.{Answer, accepted, refused, if_accepted, and_then, placed, answered, length_told}
 use Rattle.format.specs.Reading.{read_file_error, reading_raw}
 use Rattle.format.specs.Writing.{write_error, writing}
 use Rattle.format.specs.declared.errors.RewriteError.{RewriteError}
@@ -17,8 +17,7 @@ rewrite_error (RewriteError.Read e) = read_file_error e
 rewrite_error (RewriteError.Write e) = write_error e
 
 unfoldable pub rewriting_is : Result ℕ RewriteError → Answer
-rewriting_is (Ok n) = accepted (n ∷ [])
-rewriting_is (Err e) = rewrite_error e
+rewriting_is = answered length_told rewrite_error
 
 -- the lengths of the lent room and tables
 pub record Lent : Type 0 where

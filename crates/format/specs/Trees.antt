@@ -9,7 +9,7 @@ use Rattle.format.specs.Plain.{first_not_plain}
 use Rattle.format.specs.Times.{value, Time, only_time, milliseconds, over_hours}
 use Rattle.format.specs.CueText.{Token, string_token, start_tag, end_tag, timestamp_tag, parted, cue_tokens}
 use Rattle.format.specs.Rows.{word}
-use Rattle.format.specs.Answers.{Answer, accepted, refused, if_accepted, placed}
+use Rattle.format.specs.Answers.{Answer, accepted, refused, if_accepted, placed, answered}
 use Rattle.format.specs.declared.kinds.NodeKind.{NodeKind}
 use Rattle.format.specs.declared.TreeSize.{TreeSize}
 use Rattle.format.specs.declared.errors.TreeError.{TreeError}
@@ -219,9 +219,11 @@ tree_error TreeError.OverLimit = refused 5 []
 tree_error (TreeError.RoomTooShort n) = refused 2 (n ∷ [])
 tree_error (TreeError.TableTooShort n) = refused 6 (n ∷ [])
 
+unfoldable pub tree_size_told : TreeSize → Answer
+tree_size_told n = accepted (n.count ∷ n.used ∷ [])
+
 unfoldable pub tree_is : Result TreeSize TreeError → Answer
-tree_is (Ok n) = accepted (n.count ∷ n.used ∷ [])
-tree_is (Err e) = tree_error e
+tree_is = answered tree_size_told tree_error
 
 -- what reading a cue text answers, with a room of this length and a table of this many rows: the checks 1, 3, 5, 2, 6 in this order
 unfoldable pub treeing : List ℕ → ℕ → ℕ → Answer

@@ -5,7 +5,7 @@ use Rattle.std.specs.Prelude.{Result, Ok, Err}
 use Rattle.format.specs.Plain.{plain_text}
 use Rattle.format.specs.Lists.{lists}
 use Rattle.format.specs.Reading.{ReadsAgain}
-use Rattle.format.specs.Answers.{Answer, accepted, refused, if_accepted, file_answer, placed}
+use Rattle.format.specs.Answers.{Answer, accepted, refused, if_accepted, file_answer, placed, answered, length_told}
 use Rattle.format.specs.Writable.{cue_fails, region_fails, style_fails}
 use Rattle.format.specs.Contents.{Contents, contents, contents_of_rows, stored_contents}
 use Rattle.format.specs.Written.{written}
@@ -34,8 +34,7 @@ write_error (WriteError.Out e) = out_error e
 
 -- the file's length, where it accepts
 unfoldable pub writing_is : Result ℕ WriteError → Answer
-writing_is (Ok n) = accepted (n ∷ [])
-writing_is (Err e) = write_error e
+writing_is = answered length_told write_error
 
 -- the first row of a list that is not writable: the list, the row's index, i being that of the first here, and the test
 unfoldable pub or_else : Option ℕ → ℕ → ℕ → Option (List ℕ) → Option (List ℕ)
