@@ -49,17 +49,14 @@ fn timed_item(s: &[u8], from: usize, to: usize, id: Span, text: Span) -> Item
 }
 
 // Is the line this word, with only whitespace after it.
+#[tactic(auto, using(crate::proofs::LineLaws::starts_prefix), unfolding(format::specs::Lists::is_word))]
 fn is_word(line: &[u8], word: &[u8]) -> bool
     ensures { result ≡ is_word word.now line.now }
 {
-    let n = word.len();
-    if line.len() < n {
+    let Some(rest) = line.strip_prefix(word) else {
         return false;
-    }
-    if !values::bytes::same_bytes(&line[..n], word) {
-        return false;
-    }
-    values::bytes::past(line, n, ByteKind::White) == line.len()
+    };
+    values::bytes::past(rest, 0, ByteKind::White) == rest.len()
 }
 
 fn region_item(taken: RegionTaken) -> Item

@@ -53,11 +53,5 @@ pub fn kind(item: Item) -> ItemKind
 pub fn kind_over(kind: ItemKind) -> bool
     ensures { result ≡ kind_over kind }
 {
-    match kind {
-        ItemKind::Nothing => false,
-        ItemKind::Over => true,
-        ItemKind::Cue => false,
-        ItemKind::Style => false,
-        ItemKind::Region => false,
-    }
+    matches!(kind, ItemKind::Over)
 }

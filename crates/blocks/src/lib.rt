@@ -13,40 +13,21 @@ pub mod inner;
 pub mod items;
 
 // How many line ends a plain text or a part of it has.
+#[tactic(auto, using(crate::proofs::LineLaws::ends_counted))]
 pub fn line_ends(s: &[u8]) -> usize
     ensures { result ≡ line_ends s.now }
 {
-    let mut i = 0;
-    let mut n = 0;
-    while i < s.len() {
-        if s[i] == b'\n' {
-            n += 1;
-        }
-        i += 1;
-    }
-    n
+    s.iter().filter(|&&b| b == b'\n').count()
 }
 
+#[tactic(auto, using(crate::proofs::LineLaws::starts_prefix), unfolding(format::specs::Blocks::has_signature, format::specs::Blocks::seventh))]
 pub fn has_signature(s: &[u8]) -> bool
     ensures { result ≡ has_signature s.now }
 {
-    if s.len() < 6 {
+    let Some(rest) = s.strip_prefix(b"WEBVTT") else {
         return false;
-    }
-    if !values::bytes::same_bytes(&s[..6], b"WEBVTT") {
-        return false;
-    }
-    if s.len() == 6 {
-        return true;
-    }
-    let b = s[6];
-    if b == b' ' {
-        return true;
-    }
-    if b == b'\t' {
-        return true;
-    }
-    b == b'\n'
+    };
+    matches!(rest, [] | [b' ' | b'\t' | b'\n', ..])
 }
 
 // Where the lines begin that stand after the first line of a text and a header.
