@@ -13,7 +13,7 @@ use Rattle.format.specs.Texts.{run, past_run, bytes_at}
 use Rattle.format.specs.CueText.{blank, cue_tokens}
 use Rattle.laws.proofs.Tests.{by-test}
 use Rattle.laws.proofs.Runs.{RunAt, drop-first, run_at, run-first, run-after, run-moves, drop-take}
-use Rattle.tokenizer.specs.Tags.{in_name, token_is, start_of, tag_of, PartsIn, StartAt, TagAt, Marked, TokenAt, name_to, classes_to, start_told, tag_is, string_to, tag_to, after_tag, step_is}
+use Rattle.tokenizer.specs.Tags.{in_name, token_is, start_of, tag_of, PartsIn, StartAt, TagAt, Marked, TokenAt, start_told, tag_is, string_to, tag_to, after_tag, step_is}
 use Rattle.tokenizer.specs.declared.Token.{Token}
 use Rattle.tokenizer.specs.declared.Stepped.TheVariants as Stepped
 use Rattle.tokenizer.proofs.Strings.{not_less, string_token_lem}
@@ -219,14 +219,6 @@ module _ (s : List ℕ) (at : ℕ) (h : at < length s) where
         }
 
 -- what the code finds, by its tests
-pub start-found :
-    (s : List ℕ) (from to n w : ℕ)
-    → n ≡ name_to s from to
-    → w ≡ classes_to s n to
-    → Token.Start (record { from = from; to = n }) (record { from = n; to = w }) (record { from = w; to = to }) ≡ start_told s from to
-unfolding start_told
-start-found s from to n w en ew = rw (ew, en)
-
 module _ (s : List ℕ) (from to : ℕ) where
   pub tag_none : to ≤ from → start_told s from to ≡ tag_is s from to
   unfolding tag_is

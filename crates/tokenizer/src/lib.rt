@@ -35,47 +35,32 @@ pub enum Stepped {
     Next { token: Token, next: usize },
 }
 
+#[tactic(auto, unfolding(format::specs::CueText::blank))]
 fn is_blank(b: u8) -> bool
     ensures { result ≡ blank b }
 {
-    if b == b'\t' {
-        return true;
-    }
-    if b == b'\n' {
-        return true;
-    }
-    if b == 0x0C {
-        return true;
-    }
-    b == b' '
+    matches!(b, b'\t' | b'\n' | 0x0C | b' ')
 }
 
 // Does a tag's name go on with this byte; where no full stop ends it, its name and its classes.
+#[tactic(auto, unfolding(crate::specs::Tags::in_name))]
 fn goes_on(stops: bool, b: u8) -> bool
     ensures { result ≡ in_name stops b }
 {
-    if is_blank(b) {
-        return false;
-    }
-    if stops {
-        return b != b'.';
-    }
-    true
+    !is_blank(b) && !(stops && b == b'.')
 }
 
-// Where the name, or the name and the classes, from a place on end.
-fn name_end(s: &[u8], at: usize, stops: bool) -> usize
-    requires { at ≤ length s.now }
-    ensures { result ≡ at + length (run (in_name stops) (drop at s.now)) }
+// How long the name, or the name and the classes, at the text's start is.
+fn name_length(s: &[u8], stops: bool) -> usize
+    ensures is { result ≡ length (run (in_name stops) s.now) }
+    ensures within { result ≤ length s.now }
 {
-    let mut i = at;
-    while i < s.len() {
-        if !goes_on(stops, s[i]) {
+    for (i, &b) in s.iter().enumerate() {
+        if !goes_on(stops, b) {
             return i;
         }
-        i += 1;
     }
-    i
+    s.len()
 }
 
 // The start tag of what stands from one place up to another.
@@ -83,9 +68,8 @@ fn start_tag(text: &[u8], from: usize, to: usize) -> Token
     requires { (from ≤ to) × (to ≤ length text.now) }
     ensures { result ≡ start_told text.now from to }
 {
-    let body = &text[..to];
-    let classes = name_end(body, from, true);
-    let annotation = name_end(body, classes, false);
+    let classes = from + name_length(&text[from..to], true);
+    let annotation = classes + name_length(&text[classes..to], false);
     Token::Start {
         name: Span { from, to: classes },
         classes: Span {
