@@ -31,6 +31,18 @@ escape_is_lem :
 escape_is_lem held true name x y e h k = let is = ap length (same-is held name (sym e)) in omega arith
 escape_is_lem held false name x y e h k = k
 
+pub escaped_none :
+    (held : List ℕ)
+    → same held (ascii "&amp") ≡ false
+    → same held (ascii "&lt") ≡ false
+    → same held (ascii "&gt") ≡ false
+    → same held (ascii "&lrm") ≡ false
+    → same held (ascii "&rlm") ≡ false
+    → same held (ascii "&nbsp") ≡ false
+    → escaped held ≡ held ++ semicolon ∷ []
+unfolding escaped
+escaped_none held amp lt gt lrm rlm nbsp = rw (amp, lt, gt, lrm, rlm, nbsp)
+
 pub escaped-length : (held : List ℕ) → length (escaped held) ≤ length held + 1
 unfolding escaped
 escaped-length held =

@@ -32,11 +32,14 @@ pub enum ByteKind {
     // All but whitespace.
     Token,
     Digits,
+    // ASCII letters and digits.
+    Alphanumeric,
     // All but this byte.
     Until(u8),
     Only(u8),
 }
 
+#[tactic(auto, unfolding(format::specs::Bytes::alphanumeric, format::specs::Bytes::digit))]
 fn goes_on(kind: ByteKind, b: u8) -> bool
     ensures { result ≡ passes kind b }
 {
@@ -44,6 +47,7 @@ fn goes_on(kind: ByteKind, b: u8) -> bool
         ByteKind::White => is_white(b),
         ByteKind::Token => !is_white(b),
         ByteKind::Digits => is_digit(b),
+        ByteKind::Alphanumeric => b.is_ascii_alphanumeric(),
         ByteKind::Until(c) => b != c,
         ByteKind::Only(c) => b == c,
     }
