@@ -409,8 +409,8 @@ module _ (s : List ℕ) (from : ℕ) (i : from < length s) (b : in_line (get_or 
       st.head.first ≡ e₁
       → e₁ ≤ st.head.end
       → st.head.end ≤ st.to
-      → ((seen : Bool) → meaning seen (l₁ ∷ taken h.left after₁) ≡ meaning_at seen s from (more_lines 1 st))
-      → BlockAt s from (more_lines 1 st)
+      → ((seen : Bool) → meaning seen (l₁ ∷ taken h.left after₁) ≡ meaning_at seen s (record { from = from; stop = more_lines 1 st }))
+      → BlockAt s (record { from = from; stop = more_lines 1 st })
   unfolding left_of first_number bytes_of join unbroken
   block h k f e t m =
       let tk = took₁ h in
@@ -439,7 +439,7 @@ module _ (s : List ℕ) (from : ℕ) (i : from < length s) (b : in_line (get_or 
   abbrev head_first : Head
   head_first = record { left = 0; first = e₁; end = e₁; timed = true }
 
-  first_timed : holds_arrow x₁ ≡ true → BlockAt s from (more_lines 1 (collect_from head_first e₁ after₁))
+  first_timed : holds_arrow x₁ ≡ true → BlockAt s (record { from = from; stop = more_lines 1 (collect_from head_first e₁ after₁) })
   unfolding next_left meaning_at
   first_timed y =
       let hs = head_stays head_first e₁ after₁ refl in
@@ -460,13 +460,13 @@ module _ (s : List ℕ) (from : ℕ) (i : from < length s) (b : in_line (get_or 
     stop₁ = collect_from head_one e₁ after₁
 
     -- the first line is the only one
-    alone : stop₁.head ≡ head_one → stop₁.to ≡ e₁ → taken 1 after₁ ≡ [] → BlockAt s from (more_lines 1 stop₁)
+    alone : stop₁.head ≡ head_one → stop₁.to ≡ e₁ → taken 1 after₁ ≡ [] → BlockAt s (record { from = from; stop = more_lines 1 stop₁ })
     unfolding meaning_at
     alone hs t only =
         block head_one left₁ (ap (λ h. h.first) hs) (omega (arith, ap (λ h. h.end) hs)) (omega (arith, ap (λ h. h.end) hs, t))
         (λ seen. ap (λ r. meaning seen (l₁ ∷ r)) only ∙ meaning-one seen l₁ n ∙ rw (hs, t, eq-eqb e₁ e₁ refl))
 
-    at_end : length s ≤ e₁ → BlockAt s from (more_lines 1 stop₁)
+    at_end : length s ≤ e₁ → BlockAt s (record { from = from; stop = more_lines 1 stop₁ })
     unfolding collect_from taken
     at_end k =
         let None = lines_end s (e₁ + 1) (omega arith) in
@@ -500,7 +500,7 @@ module _ (s : List ℕ) (from : ℕ) (i : from < length s) (b : in_line (get_or 
       took₂ : (h : Head) → Took s e₂ h after₂
       took₂ h = took s (length s) e₂ h (omega arith) (line_inside s (e₁ + 1) inside₂) lf₂
 
-      stopped : stop_at 1 l₂ ≡ true → BlockAt s from (more_lines 1 stop₁)
+      stopped : stop_at 1 l₂ ≡ true → BlockAt s (record { from = from; stop = more_lines 1 stop₁ })
       stopped y =
           let st = collect_stop head_one e₁ l₂ after₂ y in
           alone (ap (λ r. (collect_from head_one e₁ r).head) lines₂ ∙ st.2) (ap (λ r. (collect_from head_one e₁ r).to) lines₂ ∙ st.1)
@@ -521,7 +521,7 @@ module _ (s : List ℕ) (from : ℕ) (i : from < length s) (b : in_line (get_or 
         abbrev head_second : Head
         head_second = record { left = 0; first = e₁; end = e₂; timed = true }
 
-        second_timed : holds_arrow x₂ ≡ true → BlockAt s from (more_lines 1 stop₁)
+        second_timed : holds_arrow x₂ ≡ true → BlockAt s (record { from = from; stop = more_lines 1 stop₁ })
         unfolding meaning_at
         second_timed y =
             let st : stop₁ ≡ more_lines 1 (collect_from head_second e₂ after₂) = step₂ true y in
@@ -544,7 +544,7 @@ module _ (s : List ℕ) (from : ℕ) (i : from < length s) (b : in_line (get_or 
         abbrev head_none : Head
         head_none = record { left = 0; first = e₁; end = e₁; timed = false }
 
-        untimed : holds_arrow x₂ ≡ false → BlockAt s from (more_lines 1 stop₁)
+        untimed : holds_arrow x₂ ≡ false → BlockAt s (record { from = from; stop = more_lines 1 stop₁ })
         unfolding meaning_at
         untimed m =
             let st : stop₁ ≡ more_lines 1 (collect_from head_none e₂ after₂) = step₂ false m in
@@ -561,7 +561,7 @@ module _ (s : List ℕ) (from : ℕ) (i : from < length s) (b : in_line (get_or 
             ∙ ap (λ x. definition_with seen x (joined (l₂ ∷ taken 0 after₂))) (line_part_lem s from inside₁)
             ∙ rw (text, st, hs, ne_eqb e₁ to (λ q. absurd (omega (arith, tk.not-before)))))
 
-    first_untimed : BlockAt s from (more_lines 1 stop₁)
+    first_untimed : BlockAt s (record { from = from; stop = more_lines 1 stop₁ })
     first_untimed =
         by-test (ltb e₁ (length s))
         (λ y. let k = ltb-true e₁ (length s) y in
@@ -570,7 +570,7 @@ module _ (s : List ℕ) (from : ℕ) (i : from < length s) (b : in_line (get_or 
         (λ g. by-test (holds_arrow (x₂ k)) (second_timed k g) (untimed k g)))
         (λ z. at_end (ltb-false e₁ (length s) z))
 
-  pub block_at : BlockAt s from (collect_from (record { left = 2; first = 0; end = 0; timed = false }) from (lines_from s from))
+  pub block_at : BlockAt s (record { from = from; stop = collect_from (record { left = 2; first = 0; end = 0; timed = false }) from (lines_from s from) })
   block_at =
       let opening : Head = record { left = 2; first = 0; end = 0; timed = false } in
       let st = collect_line s from opening from inside₁ Some₁ e₁ refl refl in

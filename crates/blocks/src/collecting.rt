@@ -2,7 +2,7 @@
 ghost use Rattle.std.specs.Prelude.{◌≡◌, ◌&&◌, not, ltb, eqb, ◌≤◌, ◌<◌, length, get_or, drop};
 ghost use Rattle.format.specs.Bytes.{ascii, lf};
 ghost use Rattle.format.specs.Texts.{starts_with};
-ghost use Rattle.blocks.specs.Collecting.{is_end, head_after, lines_from, collect_from, ArrowOrEnd};
+ghost use Rattle.blocks.specs.Collecting.{head_after, lines_from, collect_from, ArrowOrEnd};
 
 use values::bytes::{ByteKind, past};
 
@@ -12,13 +12,6 @@ pub enum Why {
     EmptyLine,
     End,
     Arrow,
-}
-
-// Did the text's end stop it, so that no line is left.
-pub fn is_last(why: Why) -> bool
-    ensures { result ≡ is_end why }
-{
-    matches!(why, Why::End)
 }
 
 // What is known of a block's first lines. Its timing line is its first line, or the second where the first has no arrow.
@@ -44,6 +37,13 @@ pub struct Stop {
     // How many lines were taken.
     pub lines: usize,
     pub head: Head,
+}
+
+// A block: where it begins, and where collecting it stopped.
+#[derive(Clone, Copy)]
+pub struct Block {
+    pub from: usize,
+    pub stop: Stop,
 }
 
 impl Head {

@@ -5,7 +5,7 @@ ghost use Rattle.std.specs.Prelude.{◌≡◌};
 ghost use Rattle.format.specs.Blocks.{has_signature};
 ghost use Rattle.blocks.specs.Collecting.{line_ends, header_end, next_is};
 
-use collecting::{Head, Stop};
+use collecting::{Block, Head};
 use values::bytes::ByteKind;
 
 pub mod collecting;
@@ -42,23 +42,17 @@ pub fn past_header(s: &[u8]) -> usize
     stop.at
 }
 
-#[derive(Clone, Copy)]
-pub enum Next {
-    None,
-    // A block begins here, and is collected.
-    Block { from: usize, stop: Stop },
-}
-
 // The next block that begins at `at` or after it; none where that is after the text.
-pub fn next_block(s: &[u8], at: usize) -> Next
+#[tactic(auto, unfolding(crate::specs::Collecting::next_is))]
+pub fn next_block(s: &[u8], at: usize) -> Option<Block>
     ensures { result ≡ next_is s.now at }
 {
     let from = values::bytes::past(s, at, ByteKind::Only(b'\n'));
     if s.len() <= from {
-        return Next::None;
+        return None;
     }
-    Next::Block {
+    Some(Block {
         from,
         stop: collecting::collect(s, from, Head::OPENING),
-    }
+    })
 }
