@@ -20,7 +20,7 @@ const FOUND: u64 = 2;
 const BELOW: u64 = 3;
 
 fn print_found<W: Write>(out: &mut W, code: u64, n: u64) -> io::Result<()> {
-    printing::word(out, b"fails,over,,-,", code)?;
+    printing::word(out, &[b"fails", b"over", b"", b"-"], code)?;
     if FOUND <= code {
         return printing::digits(out, n);
     }
@@ -99,7 +99,7 @@ fn print_part<W: Write>(out: &mut W, text: &[u8], part: Span) -> io::Result<()> 
 }
 
 // A choice whose first word carries no number.
-fn print_choice<W: Write>(out: &mut W, words: &[u8], code: u64, n: u64) -> io::Result<()> {
+fn print_choice<W: Write>(out: &mut W, words: &[&[u8]], code: u64, n: u64) -> io::Result<()> {
     printing::word(out, words, code)?;
     if 0 < code {
         return printing::digits(out, n);
@@ -110,37 +110,43 @@ fn print_choice<W: Write>(out: &mut W, words: &[u8], code: u64, n: u64) -> io::R
 fn print_line<W: Write>(out: &mut W, row: CueRow) -> io::Result<()> {
     print_choice(
         out,
-        b" line auto, line , line -,",
+        &[b" line auto", b" line ", b" line -"],
         row[CUE_LINE],
         row[CUE_LINE_NUMBER],
     )?;
-    printing::word(out, b" snap,,", row[CUE_SNAP])?;
-    printing::word(out, b" start, center, end,", row[CUE_LINE_ALIGN])
+    printing::word(out, &[b" snap", b""], row[CUE_SNAP])?;
+    printing::word(out, &[b" start", b" center", b" end"], row[CUE_LINE_ALIGN])
 }
 
 fn print_position<W: Write>(out: &mut W, row: CueRow) -> io::Result<()> {
     print_choice(
         out,
-        b" position auto, position ,",
+        &[b" position auto", b" position "],
         row[CUE_POSITION],
         row[CUE_POSITION_NUMBER],
     )?;
     printing::word(
         out,
-        b" auto, line-left, center, line-right,",
+        &[b" auto", b" line-left", b" center", b" line-right"],
         row[CUE_POSITION_ALIGN],
     )
 }
 
 // The choices of a cue's row.
 fn print_cue_row<W: Write>(out: &mut W, row: CueRow) -> io::Result<()> {
-    printing::word(out, b"horizontal,rl,lr,", row[CUE_VERTICAL])?;
+    printing::word(out, &[b"horizontal", b"rl", b"lr"], row[CUE_VERTICAL])?;
     print_line(out, row)?;
     print_position(out, row)?;
     print_labelled(out, b" size ", row[CUE_SIZE])?;
     printing::word(
         out,
-        b" align start, align center, align end, align left, align right,",
+        &[
+            b" align start",
+            b" align center",
+            b" align end",
+            b" align left",
+            b" align right",
+        ],
         row[CUE_ALIGN],
     )
 }
@@ -182,7 +188,7 @@ fn print_region_row<W: Write>(out: &mut W, row: RegionRow) -> io::Result<()> {
     print_labelled(out, b" width ", row[REGION_WIDTH])?;
     print_labelled(out, b" lines ", row[REGION_LINES])?;
     print_points(out, row)?;
-    printing::word(out, b" none, up,", row[REGION_SCROLL])
+    printing::word(out, &[b" none", b" up"], row[REGION_SCROLL])
 }
 
 fn print_region<W: Write>(out: &mut W, text: &[u8], region: Region) -> io::Result<()> {
