@@ -1,12 +1,14 @@
 // What the value of an accepted answer tells: document 01's values, and the number 0.
-#![tactic(auto, unfolding(format::specs::Answers::refusal_number, format::specs::Answers::returned, format::specs::LookingUp::found_is, format::specs::Reading::counts_told, format::specs::Reading::file_lists_told, format::specs::Reading::count_values, format::specs::Trees::tree_size_told))]
+#![tactic(auto, unfolding(format::specs::Answers::refusal_number, format::specs::Answers::returned, format::specs::LookingUp::found_is, format::specs::Parts::span_told, format::specs::Reading::counts_told, format::specs::Reading::file_lists_told, format::specs::Reading::count_values, format::specs::Trees::tree_size_told))]
 
 ghost use Rattle.format.specs.Answers.{length_told};
 ghost use Rattle.format.specs.LookingUp.{found_is};
+ghost use Rattle.format.specs.Parts.{span_told};
 ghost use Rattle.format.specs.Reading.{counts_told, file_lists_told};
 ghost use Rattle.format.specs.Trees.{tree_size_told};
 
 use crate::{Told, put};
+use format::settings::Span;
 use format::{Counts, FileLists, RegionFound, TreeSize};
 
 // The length of a text or a file that was made.
@@ -69,6 +71,16 @@ impl Told for RegionFound {
             None => put(&[0, 0, seen], values),
             Some(index) => put(&[1, index, seen], values),
         }
+        0
+    }
+}
+
+// The place of a part of a text.
+impl Told for Span {
+    ghost told = { span_told };
+
+    fn tell(self, values: &mut [u64; 8]) -> u64 {
+        put(&[self.from as u64, self.to as u64], values);
         0
     }
 }

@@ -5,6 +5,7 @@ use Rattle.format.specs.Contents.{cue_of_row}
 use Rattle.format.specs.Writable.{cue_test1}
 use Rattle.format.specs.Answers.{Answer, accepted, refused, if_accepted, answered}
 use Rattle.format.specs.declared.errors.PartError.{PartError}
+use Rattle.format.specs.declared.settings.Span.{Span}
 
 -- the number and the values of each case; a cue that is not writable is of list 2, and fails test 1
 unfoldable pub part_error : PartError → Answer
@@ -13,6 +14,10 @@ part_error (PartError.NotWritable number) = refused 8 (2 ∷ number ∷ 1 ∷ []
 
 unfoldable pub part_answer_is : Result Unit PartError → Answer
 part_answer_is = answered (λ part. accepted []) part_error
+
+-- the place of a part, told by its two ends
+unfoldable pub span_told : Span → Answer
+span_told p = accepted (p.from ∷ p.to ∷ [])
 
 -- what asking for a part of the cue with this number answers: the checks 7, 8
 unfoldable pub asking : List ℕ → List (List ℕ) → ℕ → Answer
