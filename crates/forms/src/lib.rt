@@ -14,7 +14,7 @@ ghost use Rattle.setting_forms.specs.Settings.{asked};
 ghost use Rattle.forms.specs.Forms.{timing_form, cue_form, number_lines};
 
 use format::regions::{Point, Region, RegionSettings, Scroll};
-use format::rows::{CueRow, RegionIndex, RegionRow, StyleRow};
+use format::rows::{CueRow, RegionRow, StyleRow};
 use output::{byte, bytes, number, percentage, time};
 use values::bytes::part;
 
@@ -83,8 +83,8 @@ pub fn cue(text: &[u8], regions: &[RegionRow], row: CueRow, out: &mut [u8], at: 
     ensures { Puts (join (cue_lines (map (region_of_row text.now) regions.now) (cue_of_row text.now row))) at out.old result out.new }
 {
     match rows::cues::region(row) {
-        RegionIndex::None => cue_named(text, row, false, &text[..0], out, at),
-        RegionIndex::At(index) => {
+        None => cue_named(text, row, false, &text[..0], out, at),
+        Some(index) => {
             let name = region_name(text, regions, index as usize);
             cue_named(text, row, true, name, out, at)
         }

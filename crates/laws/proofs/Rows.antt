@@ -209,10 +209,6 @@ stands_bytes s p h = go p.place p.bytes h
     go place [] e = refl
     go place (b ∷ x) e = let n : place + length (b ∷ x) - place ≡ length (b ∷ x) = omega arith in rw n e
 
-pub option_index : (o : Option ℕ) → (o) ≡ o
-option_index None = refl
-option_index (Some i) = refl
-
 -- the row of a cue, a region and a style has the contents of what was read
 cue-same :
     (s : List ℕ) (rs : List RegionValues) (c : Cue) (lines : LineSpan)
@@ -222,7 +218,7 @@ cue-same :
 unfolding cue_of_entry entry_is cue_contents
 cue-same s rs c lines k l =
     ap (cue_of_entry s) (read_inverse rs c lines k.line l)
-    ∙ rw (stands_bytes s c.id k.id, stands_bytes s c.text k.text, option_index (region_for rs c.region))
+    ∙ rw (stands_bytes s c.id k.id, stands_bytes s c.text k.text)
 
 region-same : (s : List ℕ) (r : RegionValues) → Stands s r.id → region_of_row s (region_words (region_is r)) ≡ region_contents r
 unfolding region_of_entry region_contents

@@ -13,7 +13,6 @@ use Rattle.format.specs.Writable.{is_index, last_of_its_name, names_of}
 use Rattle.format.specs.LookingUp.{look_up}
 use Rattle.laws.proofs.Tests.{by-test}
 use Rattle.laws.proofs.Runs.{same-is}
-use Rattle.laws.proofs.Rows.{option_index}
 use Rattle.laws.proofs.LookingUp.{look_up-named}
 use Rattle.values.proofs.NumberLaws.{empty_is, is_empty-not}
 
@@ -53,7 +52,7 @@ module _ (s : List ℕ) (rows : List (List ℕ)) (i : ℕ) where
         (length (name_at s (get_or rows i [])) ≡ 0 → ⊥)
         → (found : Option ℕ)
         → found ≡ (look_up (name_at s (get_or rows i [])) (names_of s rows)).index
-        → is_index (found) i ≡ last_of_its_name (names_of s rows) i
+        → is_index found i ≡ last_of_its_name (names_of s rows) i
     unfolding last_of_its_name
     last-is f found e =
         let name = name_at s (get_or rows i []) in
@@ -63,5 +62,4 @@ module _ (s : List ℕ) (rows : List (List ℕ)) (i : ℕ) where
           is_empty-not name (omega arith),
           e,
           look_up-named name (names_of s rows),
-          option_index,
         )

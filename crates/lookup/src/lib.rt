@@ -7,7 +7,7 @@ ghost use Rattle.format.specs.Writable.{names_of};
 ghost use Rattle.format.specs.LookingUp.{look_up, Last};
 
 use format::RegionFound;
-use format::rows::{RegionIndex, RegionRow};
+use format::rows::RegionRow;
 use format::settings::Span;
 use values::bytes::{part, same_bytes};
 
@@ -49,13 +49,13 @@ pub fn find_region(text: &[u8], regions: &[RegionRow], name: &[u8]) -> RegionFou
         i -= 1;
         if is_named(text, rows::regions::id(regions[i]), name) {
             return RegionFound {
-                index: RegionIndex::At(i as u64),
+                index: Some(i as u64),
                 seen: count - i,
             };
         }
     }
     RegionFound {
-        index: RegionIndex::None,
+        index: None,
         seen: count,
     }
 }

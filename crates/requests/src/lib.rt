@@ -15,7 +15,7 @@ ghost use Rattle.requests.specs.Asked.{field_of, numbers_in, lengths_in, rest_of
 
 use cue_settings::steps::CueTaken;
 use fields::{FieldLength, FieldNumber, nth};
-use format::rows::{CueEntry, NewCueRow, RegionIndex};
+use format::rows::{CueEntry, NewCueRow};
 use format::settings::{Settings, Span};
 use values::bytes::{part, same_bytes};
 
@@ -148,7 +148,7 @@ fn asking_of(numbers: Numbers, settings: Settings, lengths: Lengths, name: usize
         end: numbers.end,
         text,
         settings,
-        region: RegionIndex::None,
+        region: None,
     };
     Asking {
         number: numbers.number as usize,

@@ -3,7 +3,6 @@ ghost use Rattle.std.specs.Prelude.{◌≡◌, ◌&&◌, eqb, ltb};
 ghost use Rattle.format.specs.Rows.{direction_of, line_of, line_align_of, position_of, position_align_of, align_of, region_index_of, scroll_of};
 
 use format::regions::Scroll;
-use format::rows::RegionIndex;
 use format::settings::{Align, Direction, Line, LineAlign, Position, PositionAlign};
 
 pub(crate) fn direction(n: u64) -> Direction
@@ -77,12 +76,12 @@ pub(crate) fn align(n: u64) -> Align
     }
 }
 
-pub(crate) fn region(n: u64) -> RegionIndex
+pub(crate) fn region(n: u64) -> Option<u64>
     ensures { result ≡ region_index_of n }
 {
     match n {
-        0 => RegionIndex::None,
-        _ => RegionIndex::At(n - 1),
+        0 => None,
+        _ => Some(n - 1),
     }
 }
 

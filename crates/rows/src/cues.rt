@@ -75,7 +75,7 @@ pub fn align(row: CueRow) -> Align
     choices::align(row[CUE_ALIGN])
 }
 
-pub fn region(row: CueRow) -> RegionIndex
+pub fn region(row: CueRow) -> Option<u64>
     ensures { result ≡ (cue_entry row).region }
 {
     choices::region(row[CUE_REGION])

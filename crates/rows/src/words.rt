@@ -3,7 +3,6 @@ ghost use Rattle.std.specs.Prelude.{◌≡◌, ◌<◌};
 ghost use Rattle.format.specs.Rows.{direction_word, line_word, line_number_word, snap_word, line_align_word, position_word, position_number_word, position_align_word, align_word, region_word, scroll_word};
 
 use format::regions::Scroll;
-use format::rows::RegionIndex;
 use format::settings::{Align, Direction, Line, LineAlign, Position, PositionAlign};
 
 pub(crate) fn direction(d: Direction) -> u64
@@ -106,12 +105,12 @@ pub(crate) fn align(a: Align) -> u64
 }
 
 // The greatest index has no word of its own, and no list of regions has that index.
-pub(crate) fn region(i: RegionIndex) -> u64
+pub(crate) fn region(i: Option<u64>) -> u64
     ensures { result ≡ region_word i }
 {
     match i {
-        RegionIndex::None => 0,
-        RegionIndex::At(n) => {
+        None => 0,
+        Some(n) => {
             if n < 0xFFFF_FFFF_FFFF_FFFF {
                 return n + 1;
             }

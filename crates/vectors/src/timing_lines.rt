@@ -160,7 +160,7 @@ fn row_of(settings: Settings) -> CueRow {
         end: 0,
         text: none,
         settings,
-        region: RegionIndex::None,
+        region: None,
     };
     rows::cue_row(entry, LineSpan::NONE)
 }

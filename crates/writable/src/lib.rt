@@ -15,7 +15,7 @@ ghost use Rattle.lookup.specs.Known.{AllLast};
 ghost use Rattle.writable.specs.Faults.{test_number, fault_is};
 
 use format::regions::{Region, RegionSettings};
-use format::rows::{CueRow, RegionIndex, RegionRow, StyleRow};
+use format::rows::{CueRow, RegionRow, StyleRow};
 use format::settings::{Line, LineAlign, LinePlace, Position, PositionAlign, PositionPlace, Span};
 use lookup::inner::KNOWN_ROWS;
 use parts::part_plain;
@@ -189,15 +189,15 @@ fn numbers_fit(row: CueRow) -> bool
 }
 
 // A cue's test 6, where `known` holds indices of regions that pass it, each increased by one.
-fn region_fits(text: &[u8], regions: &[RegionRow], region: RegionIndex, known: &mut [usize]) -> bool
+fn region_fits(text: &[u8], regions: &[RegionRow], region: Option<u64>, known: &mut [usize]) -> bool
     requires known_len { length known.old ≡ 256 }
     requires all_last { AllLast (names_of text.now regions.now) known.old }
     ensures answer { result ≡ cue_test6 (names_of text.now regions.now) (region) }
     ensures known { AllLast (names_of text.now regions.now) known.new }
 {
     match region {
-        RegionIndex::None => true,
-        RegionIndex::At(index) => {
+        None => true,
+        Some(index) => {
             lookup::inner::is_known_last(text, regions, index as usize, known)
         }
     }

@@ -11,11 +11,11 @@ returns-in-None c =
     (sym (cue_alone args.text.now args.regions.now (cue_entry args.row) (sym c.region.ensures ∙ c.in-None.is)))
     c.cue_named.ensures
 
-pub returns-in-At : goal.returns-in-At
-returns-in-At c =
+pub returns-in-Some : goal.returns-in-Some
+returns-in-Some c =
     let args = c.args in
     rw (
-      cue_regional args.text.now args.regions.now (cue_entry args.row) c.in-At.index (sym c.region.ensures ∙ c.in-At.is),
+      cue_regional args.text.now args.regions.now (cue_entry args.row) c.in-Some.index (sym c.region.ensures ∙ c.in-Some.is),
       ← c.region_name-name.ensures,
     )
-    c.cue_named-in-At.ensures
+    c.cue_named-in-Some.ensures

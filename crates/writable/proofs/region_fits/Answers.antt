@@ -9,10 +9,10 @@ returns-in-None c =
       known = c.requires.all_last;
     }
 
-pub returns-in-At : goal.returns-in-At
+pub returns-in-Some : goal.returns-in-Some
 unfolding cue_test6
-returns-in-At c =
+returns-in-Some c =
     record {
-      answer = rw c.in-At.is (c.is_known_last.ensures.answer);
+      answer = rw c.in-Some.is (c.is_known_last.ensures.answer);
       known = c.is_known_last.ensures.known;
     }

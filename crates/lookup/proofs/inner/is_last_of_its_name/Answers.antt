@@ -48,6 +48,6 @@ pub returns-in-None : goal.returns-in-None
 unfolding is_index
 returns-in-None c = rw c.in-None.is at (answer (goal.at.returns-in-None c).After-find_region-found (name-is (goal.at.returns-in-None c).After-part-name))
 
-pub returns-in-At : goal.returns-in-At
+pub returns-in-Some : goal.returns-in-Some
 unfolding is_index
-returns-in-At c = rw c.in-At.is at (answer (goal.at.returns-in-At c).After-find_region-found (name-is (goal.at.returns-in-At c).After-part-name))
+returns-in-Some c = rw c.in-Some.is at (answer (goal.at.returns-in-Some c).After-find_region-found (name-is (goal.at.returns-in-Some c).After-part-name))
