@@ -57,12 +57,15 @@ fn goes_on(kind: ByteKind, b: u8) -> bool
 pub fn past(s: &[u8], at: usize, kind: ByteKind) -> usize
     ensures { result ≡ at + length (run (passes kind) (drop at s.now)) }
 {
-    for i in at..s.len() {
+    // With a `for`, over places or over what is left, the lines of a file are read a fifth slower or more.
+    let mut i = at;
+    while i < s.len() {
         if !goes_on(kind, s[i]) {
             return i;
         }
+        i += 1;
     }
-    at.max(s.len())
+    i
 }
 
 // The bytes of a text from one place up to another, as far as the text has them.
