@@ -15,6 +15,7 @@ use Rattle.format.specs.Rows.{word}
 use Rattle.format.specs.Texts.{bytes_at}
 use Rattle.format.specs.Trees.{Node, kind_word, kind_named, Open, parent_of, kind_of, attached, tag_time, element, stamped, made, entering, path_after, nodes_from, nodes, node_strings, place_words, parent_word, node_words, node_rows, parent_named, kind_numbered, node_of_row, parent_before, parents_first, TreeStands}
 use Rattle.format.specs.declared.kinds.NodeKind.{NodeKind}
+use Rattle.nodes.proofs.KindLaws.{kind_numbered_lem}
 use Rattle.laws.proofs.Tests.{and_left, and_right, and_both}
 use Rattle.node_laws.proofs.TreeLaws.{leaving_keeps}
 use Rattle.node_laws.proofs.RoomLaws.{room_bound}
@@ -30,19 +31,6 @@ pub named-word : (w : ℕ) → parent_word (parent_named w) ≡ w
 unfolding parent_named parent_word
 named-word zero = refl
 named-word (suc i) = refl
-
-pub kind_numbered_lem : (k : NodeKind) → kind_numbered (kind_word k) ≡ k
-unfolding kind_numbered
-kind_numbered_lem NodeKind.Class = refl
-kind_numbered_lem NodeKind.Italic = refl
-kind_numbered_lem NodeKind.Bold = refl
-kind_numbered_lem NodeKind.Underline = refl
-kind_numbered_lem NodeKind.Ruby = refl
-kind_numbered_lem NodeKind.RubyText = refl
-kind_numbered_lem NodeKind.Voice = refl
-kind_numbered_lem NodeKind.Language = refl
-kind_numbered_lem NodeKind.String = refl
-kind_numbered_lem NodeKind.Timestamp = refl
 
 -- a string's place is two words
 two_words : (place : ℕ) (x : List ℕ) → place_words place x ≡ word 0 (place_words place x) ∷ word 1 (place_words place x) ∷ []

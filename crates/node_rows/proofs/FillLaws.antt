@@ -25,7 +25,8 @@ use Rattle.node_rows.specs.Rows.{no_row, node_named, up_in, kind_in, left_of, le
 use Rattle.node_rows.specs.declared.inner.filling.Filled.{Filled}
 use Rattle.node_laws.proofs.TreeLaws.{leaving_keeps, Gives, ignored, above, attaches, gives, node_strings_append}
 use Rattle.node_laws.proofs.RoomLaws.{room_bound}
-use Rattle.node_laws.proofs.RowLaws.{parent_named_lem, named-word, kind_numbered_lem, length-rows}
+use Rattle.node_laws.proofs.RowLaws.{parent_named_lem, named-word, length-rows}
+use Rattle.nodes.proofs.KindLaws.{kind_numbered_lem}
 
 -- a node's strings and its row, put one after the other
 pub puts_node :

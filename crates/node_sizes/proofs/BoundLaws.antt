@@ -4,7 +4,7 @@ use Prim.Native.Nat.{ℕ, ◌+◌, ◌*◌, ◌-◌, ◌≤◌, ◌<◌}
 use mathlib.Core.Path.{◌≡◌, refl, sym, ap, ◌∙◌}
 use mathlib.Core.Bool.{true, false, ◌&&◌, ◌||◌}
 use mathlib.Core.List.{List, [], ◌∷◌}
-use Rattle.std.specs.Prelude.{Option, None, Some}
+use Rattle.std.specs.Prelude.{Option, None, Some, Ok, Err}
 use native.Mathlib.Omega.{arith}
 use lib.Dec.{ltb}
 use lib.ListN.{length, drop, length-drop, length-map, drop_of_length-le}
@@ -15,12 +15,13 @@ use Rattle.format.specs.CueText.{cue_tokens_from, cue_tokens, visit_end}
 use Rattle.format.specs.Texts.{is_empty, same, bytes_at}
 use Rattle.format.specs.Trees.{kind_word, kind_numbered, kind_named, is_kind, attached, tag_time, token_over, any_time_over, nodes}
 use Rattle.format.specs.declared.kinds.NodeKind.{NodeKind}
+use Rattle.format.specs.declared.errors.OverLimit.{OverLimit}
 use Rattle.laws.proofs.Tests.{by-test}
 use Rattle.tokenizer.specs.Tags.{span_bytes, token_is, PartsIn, Marked, TokenAt}
 use Rattle.tokenizer.specs.declared.Token.{Token}
 use Rattle.tokenizer.proofs.Spans.{wider}
 use Rattle.format.specs.declared.settings.Span.{Span}
-use Rattle.nodes.specs.Tokens.{element_made, stamp_made, made_is, left_kind}
+use Rattle.nodes.specs.Tokens.{Gift, element_made, stamp_made, made_is, left_kind}
 use Rattle.nodes.specs.declared.inner.tokens.Made.{Made}
 use Rattle.stack.specs.Kinds.{kinds, Holds, Emptied}
 use Rattle.stack.specs.declared.inner.kinds.Stack.{Stack}
@@ -32,25 +33,25 @@ use Rattle.node_laws.proofs.TreeLaws.{counted}
 use Rattle.node_laws.proofs.RoomLaws.{length-bound, count-bound}
 
 -- a token gives nothing, a time above its limit, or a node: never two of them
-none_node : {P : Type 0} {kind : NodeKind} {time : ℕ} → Made.None ≡ Made.Node kind time → P
-none_node {kind = kind} {time = time} e = let z : ◌≡◌ {A = ℕ} 0 1 = cc in absurd (omega arith)
+none_node : {P : Type 0} {m : Made} → ◌≡◌ {A = Gift} (Ok None) (Ok (Some m)) → P
+none_node {m = m} e = let z : ◌≡◌ {A = ℕ} 0 1 = cc in absurd (omega arith)
 
-over_node : {P : Type 0} {kind : NodeKind} {time : ℕ} → Made.Over ≡ Made.Node kind time → P
-over_node {kind = kind} {time = time} e = let z : ◌≡◌ {A = ℕ} 0 1 = cc in absurd (omega arith)
+over_node : {P : Type 0} {over : OverLimit} {m : Made} → ◌≡◌ {A = Gift} (Err over) (Ok (Some m)) → P
+over_node {over = over} {m = m} e = let z : ◌≡◌ {A = ℕ} 0 1 = cc in absurd (omega arith)
 
-node_kind : {a kind : NodeKind} {b time : ℕ} → Made.Node a b ≡ Made.Node kind time → kind_word a ≡ kind_word kind
-node_kind {a} {kind} e = let same : a ≡ kind = cc in ap kind_word same
+node_kind : {a m : Made} → ◌≡◌ {A = Gift} (Ok (Some a)) (Ok (Some m)) → kind_word a.kind ≡ kind_word m.kind
+node_kind {a} {m} e = let same : a ≡ m = cc in ap (λ k. kind_word k.kind) same
 
 -- only a start tag with a name opens a node with children
-stamp_leaf : {P : Type 0} (o : Option Time) (kind : NodeKind) (time : ℕ) → stamp_made o ≡ Made.Node kind time → kind_word kind < 8 → P
+stamp_leaf : {P : Type 0} (o : Option Time) (m : Made) → stamp_made o ≡ Ok (Some m) → kind_word m.kind < 8 → P
 unfolding stamp_made
-stamp_leaf None kind time e h = none_node e
-stamp_leaf (Some t) kind time e h =
+stamp_leaf None m e h = none_node e
+stamp_leaf (Some t) m e h =
     by-test (over_hours t)
     (λ y. over_node (rw y at e))
     (λ n. let k = node_kind (rw n at e) in absurd (omega arith))
 
-nameless : (current : Option NodeKind) → element_made (attached current []) ≡ Made.None
+nameless : (current : Option NodeKind) → element_made (attached current []) ≡ None
 unfolding element_made attached kind_named is_kind same
 nameless current = refl
 
@@ -59,31 +60,31 @@ unfolding bytes_at
 no_bytes s from to h = let e : to - from ≡ 0 = omega arith in rw e refl
 
 named :
-    (s : List ℕ) (current : Option NodeKind) (name : Span) (kind : NodeKind) (time : ℕ)
-    → element_made (attached current (span_bytes s name)) ≡ Made.Node kind time
+    (s : List ℕ) (current : Option NodeKind) (name : Span) (m : Made)
+    → ◌≡◌ {A = Gift} (Ok (element_made (attached current (span_bytes s name)))) (Ok (Some m))
     → name.from < name.to
-named s current name kind time e =
+named s current name m e =
     by-test (ltb name.from name.to)
     (λ y. ltb-true name.from name.to y)
     (λ n.
     let none = no_bytes s name.from name.to (ltb-false name.from name.to n) in
-    none_node (sym (nameless current) ∙ ap (λ b. element_made (attached current b)) (sym none) ∙ e))
+    none_node (ap Ok (sym (nameless current) ∙ ap (λ b. element_made (attached current b)) (sym none)) ∙ e))
 
 -- so `<`, a name and, where the text goes on, `>` stand between the two places
 opens :
-    (s : List ℕ) (at next : ℕ) (t : Token) (current : Option NodeKind) (kind : NodeKind) (time : ℕ)
+    (s : List ℕ) (at next : ℕ) (t : Token) (current : Option NodeKind) (m : Made)
     → PartsIn s at next t
     → Marked s at next t
-    → made_is current (token_is s t) ≡ Made.Node kind time
-    → kind_word kind < 8
+    → made_is current (token_is s t) ≡ Ok (Some m)
+    → kind_word m.kind < 8
     → next < length s
     → at + 3 ≤ next
 unfolding made_is token_is
-opens s at next (Token.String p) current kind time parts marked e h l = let k = node_kind e in absurd (omega arith)
-opens s at next (Token.Start name classes annotation) current kind time parts marked e h l =
+opens s at next (Token.String p) current m parts marked e h l = let k = node_kind e in absurd (omega arith)
+opens s at next (Token.Start name classes annotation) current m parts marked e h l =
     omega (
       arith,
-      named s current name kind time e,
+      named s current name m e,
       marked.0,
       marked.1 l,
       parts.between,
@@ -91,8 +92,8 @@ opens s at next (Token.Start name classes annotation) current kind time parts ma
       parts.beyond,
       parts.annotated,
     )
-opens s at next (Token.End p) current kind time parts marked e h l = none_node e
-opens s at next (Token.Timestamp p) current kind time parts marked e h l = stamp_leaf (tag_time (span_bytes s p)) kind time e h
+opens s at next (Token.End p) current m parts marked e h l = none_node e
+opens s at next (Token.Timestamp p) current m parts marked e h l = stamp_leaf (tag_time (span_bytes s p)) m e h
 
 left-length : (named : Option NodeKind) (ks : List NodeKind) → length (leaving_kinds named ks) ≤ length ks
 unfolding leaving_kinds
@@ -103,13 +104,13 @@ left-length named (k ∷ ks) =
     (λ n. by-test (is_kind named NodeKind.Ruby && is_kind (Some k) NodeKind.RubyText) (λ y. rw (n, y) (omega (arith, length-drop 1 ks))) (λ m. rw (n, m) (omega arith)))
 
 module _ (s : List ℕ) (at : ℕ) (t : Token) (next : ℕ) (f : TokenAt s at t next) (ks : List NodeKind) (h : 3 * length ks ≤ at) (l : next < length s) where
-  depth_made : (left : Option NodeKind) (m : Made) → made_is (top_kind ks) (token_is s t) ≡ m → 3 * length (after_made m left ks) ≤ next
+  depth_made : (left : Option NodeKind) (m : Gift) → made_is (top_kind ks) (token_is s t) ≡ m → 3 * length (after_made m left ks) ≤ next
   unfolding after_made
-  depth_made left Made.None e = omega (arith, f.moves, left-length left ks)
-  depth_made left Made.Over e = omega (arith, f.moves)
-  depth_made left (Made.Node kind time) e =
-      by-test (ltb (kind_word kind) 8)
-      (λ y. rw y (omega (arith, opens s at next t (top_kind ks) kind time f.parts f.marked e (ltb-true (kind_word kind) 8 y) l)))
+  depth_made left (Ok None) e = omega (arith, f.moves, left-length left ks)
+  depth_made left (Err over) e = omega (arith, f.moves)
+  depth_made left (Ok (Some m)) e =
+      by-test (ltb (kind_word m.kind) 8)
+      (λ y. rw y (omega (arith, opens s at next t (top_kind ks) m f.parts f.marked e (ltb-true (kind_word m.kind) 8 y) l)))
       (λ n. rw n (omega (arith, f.moves)))
 
   depth : 3 * length (kinds_after ks (token_is s t)) ≤ next
@@ -147,7 +148,7 @@ module _ (s lent : List ℕ) (at : ℕ) (m : Measured) (words : List ℕ) (reach
   rest h = rw (drop_of_length-le s h) refl
 
   -- no token is left
-  pub reached_end : length s ≤ at → Sized s m.count m.used
+  pub reached_end : length s ≤ at → Sized s (record { count = m.count; used = m.used })
   unfolding count_from length_from any_time_over nodes kinds_of
   reached_end h =
       let none = rest h in

@@ -3,7 +3,7 @@ use Prim.Native.Nat.{ℕ, ◌+◌, ◌<◌}
 use mathlib.Core.Path.{◌≡◌, refl, sym, ap, ◌∙◌}
 use mathlib.Core.Bool.{Bool, true, false, cond, ◌&&◌}
 use mathlib.Core.List.{List, [], ◌∷◌, map}
-use Rattle.std.specs.Prelude.{Option, None, Some}
+use Rattle.std.specs.Prelude.{Option, None, Some, Ok, Err}
 use native.Mathlib.Omega.{arith}
 use lib.ListN.{length, drop}
 use Rattle.format.specs.Times.{Time, over_hours}
@@ -11,11 +11,11 @@ use Rattle.format.specs.CueText.{string_token, start_tag, end_tag, timestamp_tag
 use Rattle.format.specs.CueText as CueText
 use Rattle.format.specs.Trees.{kind_numbered, is_kind, attached, time_over, token_over, tag_time}
 use Rattle.format.specs.declared.kinds.NodeKind.{NodeKind}
+use Rattle.format.specs.declared.errors.OverLimit.{OverLimit}
 use Rattle.laws.proofs.Tests.{by-test}
 use Rattle.tokenizer.specs.Tags.{token_is}
 use Rattle.tokenizer.specs.declared.Token.{Token}
-use Rattle.nodes.specs.Tokens.{element_made, stamp_made, made_is, token_classes, token_value, left_kind}
-use Rattle.nodes.specs.declared.inner.tokens.Made.{Made}
+use Rattle.nodes.specs.Tokens.{Gift, node, stamp_made, made_is, token_classes, token_value, left_kind}
 use Rattle.stack.specs.Kinds.{kinds, top_of, Popped}
 use Rattle.stack.specs.declared.inner.kinds.Stack.{Stack}
 use Rattle.node_laws.specs.Sizes.{top_kind, leaving_kinds, after_made, kinds_after, made_count, made_length}
@@ -52,15 +52,9 @@ pub opened_pop : {s r : Stack} {words : List ℕ} → Popped s words r → opene
 opened_pop {s} {words = words} p = rw p.is (map-drop (kinds s words))
 
 -- a time above its limit, told by what its token gives
-unfoldable is_over : Made → Bool
-is_over Made.None = false
-is_over Made.Over = true
-is_over (Made.Node kind time) = false
-
-element-within : (o : Option NodeKind) → is_over (element_made o) ≡ false
-unfolding is_over element_made
-element-within None = refl
-element-within (Some k) = refl
+unfoldable is_over : Gift → Bool
+is_over (Ok m) = false
+is_over (Err over) = true
 
 stamp_over : (o : Option Time) → time_over o ≡ is_over (stamp_made o)
 unfolding is_over stamp_made time_over
@@ -70,21 +64,21 @@ stamp_over (Some t) = by-test (over_hours t) (λ y. rw y refl) (λ n. rw n refl)
 over-is : (current : Option NodeKind) (t : CueText.Token) → token_over t ≡ is_over (made_is current t)
 unfolding is_over token_over made_is
 over-is current (string_token value) = refl
-over-is current (start_tag name classes annotation) = sym (element-within (attached current name))
+over-is current (start_tag name classes annotation) = refl
 over-is current (end_tag name) = refl
 over-is current (timestamp_tag value) = stamp_over (tag_time value)
 
 module _ (s : List ℕ) (t : Token) (m : Measured) (words : List ℕ) where
-  over-made : {made : Made} → made_below s t m words ≡ made → token_over (token_is s t) ≡ is_over made
+  over-made : {made : Gift} → made_below s t m words ≡ made → token_over (token_is s t) ≡ is_over made
   over-made e = over-is (top_kind (opened m.stack words)) (token_is s t) ∙ ap is_over e
 
-  pub is_over_lem : made_below s t m words ≡ Made.Over → token_over (token_is s t) ≡ true
+  pub is_over_lem : {over : OverLimit} → made_below s t m words ≡ Err over → token_over (token_is s t) ≡ true
   unfolding is_over
   is_over_lem e = over-made e
 
   pub passed_none :
       (r : Stack)
-      → made_below s t m words ≡ Made.None
+      → made_below s t m words ≡ Ok None
       → Left (left_kind (token_is s t)) m.stack words r
       → Passed s t m words (record { stack = r; count = m.count; used = m.used }) words
   unfolding is_over kinds_after after_made made_count made_length
@@ -98,7 +92,7 @@ module _ (s : List ℕ) (t : Token) (m : Measured) (words : List ℕ) where
         used = rw e (omega arith);
       }
 
-  module _ (kind : NodeKind) (time : ℕ) (e : made_below s t m words ≡ Made.Node kind time) where
+  module _ (kind : NodeKind) (time : ℕ) (e : made_below s t m words ≡ node kind time) where
     -- the strings of the node
     pub node_length : made_length (made_below s t m words) (token_is s t) ≡ length (token_classes (token_is s t)) + length (token_value kind (token_is s t))
     unfolding made_length

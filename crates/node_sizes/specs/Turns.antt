@@ -1,18 +1,17 @@
 -- What one token does to the open nodes and the sums of the first pass over a cue text.
 use Rattle.std.specs.Prelude.{ℕ, ◌+◌, ◌*◌, ◌≤◌, ◌<◌, ◌≡◌, true, false, cond, List, ◌∷◌, map, ltb, length}
-use Rattle.std.specs.Prelude.{Option}
+use Rattle.std.specs.Prelude.{Option, Result, Ok, Err}
 use Rattle.format.specs.Limits.{max_text}
 use Rattle.format.specs.Trees.{kind_word, kind_numbered, token_over}
 use Rattle.format.specs.declared.kinds.NodeKind.{NodeKind}
+use Rattle.format.specs.declared.errors.OverLimit.{OverLimit}
 use Rattle.tokenizer.specs.Tags.{token_is, PartsIn}
 use Rattle.tokenizer.specs.declared.Token.{Token}
-use Rattle.nodes.specs.Tokens.{made_is}
-use Rattle.nodes.specs.declared.inner.tokens.Made.{Made}
+use Rattle.nodes.specs.Tokens.{Gift, made_is}
 use Rattle.stack.specs.Kinds.{kinds, Holds}
 use Rattle.stack.specs.declared.inner.kinds.Stack.{Stack}
 use Rattle.node_laws.specs.Sizes.{top_kind, leaving_kinds, kinds_after, made_count, made_length}
 use Rattle.node_sizes.specs.declared.inner.measuring.Measured.{Measured}
-use Rattle.node_sizes.specs.declared.inner.measuring.Turned.{Turned}
 
 -- the kinds of the open nodes, whose words are on the stack
 abbrev pub opened : Stack → List ℕ → List NodeKind
@@ -30,7 +29,7 @@ pub record Entered (kind : NodeKind) (s : Stack) (words : List ℕ) (r : Stack) 
   pub long : length left ≡ length words
 
 -- what a token gives below the open nodes
-abbrev pub made_below : List ℕ → Token → Measured → List ℕ → Made
+abbrev pub made_below : List ℕ → Token → Measured → List ℕ → Gift
 made_below s t m words = made_is (top_kind (opened m.stack words)) (token_is s t)
 
 -- the words have room for one node more, and no sum gets too large
@@ -51,6 +50,6 @@ pub record Passed (s : List ℕ) (t : Token) (m : Measured) (words : List ℕ) (
   pub count : r.count ≡ m.count + made_count (made_below s t m words)
   pub used : r.used ≡ m.used + made_length (made_below s t m words) (token_is s t)
 
-abbrev pub TurnIs : List ℕ → Token → Measured → List ℕ → Turned → List ℕ → Type 0
-TurnIs s t m words Turned.Over left = token_over (token_is s t) ≡ true
-TurnIs s t m words (Turned.On r) left = Passed s t m words r left
+abbrev pub TurnIs : List ℕ → Token → Measured → List ℕ → Result Measured OverLimit → List ℕ → Type 0
+TurnIs s t m words (Ok r) left = Passed s t m words r left
+TurnIs s t m words (Err over) left = token_over (token_is s t) ≡ true

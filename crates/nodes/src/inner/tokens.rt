@@ -9,111 +9,109 @@ ghost use Rattle.format.specs.Trees.{kind_named, is_kind, attached, tag_time, va
 ghost use Rattle.format.specs.declared.kinds.NodeKind.TheVariants as Kind;
 ghost use Rattle.tokenizer.specs.Tags.{token_is, PartsIn};
 ghost use Rattle.strings.specs.Stores.{Stores};
-ghost use Rattle.nodes.specs.Tokens.{kind_is, attached_kind, element_made, stamp_made, made_is, token_classes, token_value, left_kind};
+ghost use Rattle.nodes.specs.Tokens.{attached_kind, element_made, stamp_made, made_is, token_classes, token_value, left_kind};
 
-use crate::kinds::{MaybeKind, is_kind, same_kind};
+use crate::kinds::is_kind;
+use format::OverLimit;
 use format::kinds::NodeKind;
 use format::settings::Span;
 use format::times::Stamp;
 use strings::inner::puts::{put_collapsed, put_decoded};
 use tokenizer::Token;
-use values::names::index_of;
 
+// A node of this kind, and a timestamp's milliseconds.
 #[derive(Clone, Copy)]
-pub enum Made {
-    None,
-    // A timestamp whose hours are above their limit.
-    Over,
-    // A node of this kind, and a timestamp's milliseconds.
-    Node { kind: NodeKind, time: u64 },
+pub struct Made {
+    pub kind: NodeKind,
+    pub time: u64,
 }
 
 // The kind that a tag's name names.
-fn kind_named(name: &[u8]) -> MaybeKind
-    ensures { kind_is result ≡ kind_named name.now }
+#[tactic(auto, unfolding(format::specs::Trees::kind_named, format::specs::Texts::same))]
+fn kind_named(name: &[u8]) -> Option<NodeKind>
+    ensures { result ≡ kind_named name.now }
 {
-    match index_of(b"c\ni\nb\nu\nruby\nrt\nv\nlang", name) {
-        0 => MaybeKind::Is(NodeKind::Class),
-        1 => MaybeKind::Is(NodeKind::Italic),
-        2 => MaybeKind::Is(NodeKind::Bold),
-        3 => MaybeKind::Is(NodeKind::Underline),
-        4 => MaybeKind::Is(NodeKind::Ruby),
-        5 => MaybeKind::Is(NodeKind::RubyText),
-        6 => MaybeKind::Is(NodeKind::Voice),
-        7 => MaybeKind::Is(NodeKind::Language),
-        _ => MaybeKind::None,
+    match name {
+        b"c" => Some(NodeKind::Class),
+        b"i" => Some(NodeKind::Italic),
+        b"b" => Some(NodeKind::Bold),
+        b"u" => Some(NodeKind::Underline),
+        b"ruby" => Some(NodeKind::Ruby),
+        b"rt" => Some(NodeKind::RubyText),
+        b"v" => Some(NodeKind::Voice),
+        b"lang" => Some(NodeKind::Language),
+        _ => None,
     }
 }
 
 // The kind that the part of a text names.
-fn named_at(text: &[u8], from: usize, to: usize) -> MaybeKind
+fn named_at(text: &[u8], from: usize, to: usize) -> Option<NodeKind>
     requires { (from ≤ to) × (to ≤ length text.now) }
-    ensures { kind_is result ≡ kind_named (bytes_at text.now from to) }
+    ensures { result ≡ kind_named (bytes_at text.now from to) }
 {
     kind_named(&text[from..to])
 }
 
 // Ruby text opens only directly inside ruby.
-fn attach(current: MaybeKind, named: MaybeKind) -> MaybeKind
-    ensures { kind_is result ≡ attached_kind (kind_is current) (kind_is named) }
+fn attach(current: Option<NodeKind>, named: Option<NodeKind>) -> Option<NodeKind>
+    ensures { result ≡ attached_kind current named }
 {
-    if !is_kind(named, NodeKind::RubyText) {
-        return named;
-    }
-    if !is_kind(current, NodeKind::Ruby) {
-        return MaybeKind::None;
+    if is_kind(named, NodeKind::RubyText) && !is_kind(current, NodeKind::Ruby) {
+        return None;
     }
     named
 }
 
 // The node of a start tag.
-fn element(text: &[u8], from: usize, to: usize, current: MaybeKind) -> Made
+fn element(text: &[u8], from: usize, to: usize, current: Option<NodeKind>) -> Option<Made>
     requires { (from ≤ to) × (to ≤ length text.now) }
-    ensures { result ≡ element_made (attached (kind_is current) (bytes_at text.now from to)) }
+    ensures { result ≡ element_made (attached current (bytes_at text.now from to)) }
 {
-    match attach(current, named_at(text, from, to)) {
-        MaybeKind::None => Made::None,
-        MaybeKind::Is(kind) => Made::Node { kind, time: 0 },
-    }
+    let kind = attach(current, named_at(text, from, to))?;
+    Some(Made { kind, time: 0 })
 }
 
 // The node of a timestamp tag: a time and nothing after it.
-fn stamp(s: &[u8]) -> Made
+fn stamp(s: &[u8]) -> Result<Option<Made>, OverLimit>
     ensures { result ≡ stamp_made (tag_time s.now) }
 {
     match values::read_only_time(s) {
-        Stamp::Bad { fault: _, at: _ } => Made::None,
-        Stamp::Over { next: _ } => Made::Over,
-        Stamp::At { ms, next: _ } => Made::Node {
+        Stamp::Bad { fault: _, at: _ } => Ok(None),
+        Stamp::Over { next: _ } => Err(OverLimit),
+        Stamp::At { ms, next: _ } => Ok(Some(Made {
             kind: NodeKind::Timestamp,
             time: ms,
-        },
+        })),
     }
 }
 
-fn stamp_at(text: &[u8], from: usize, to: usize) -> Made
+fn stamp_at(text: &[u8], from: usize, to: usize) -> Result<Option<Made>, OverLimit>
     requires { (from ≤ to) × (to ≤ length text.now) }
     ensures { result ≡ stamp_made (tag_time (bytes_at text.now from to)) }
 {
     stamp(&text[from..to])
 }
 
-// The node that a token gives below a current node of this kind.
-pub fn node_of(text: &[u8], token: Token, current: MaybeKind) -> Made
+// The node that a token gives below a current node of this kind; refused where a timestamp's hours are above their limit.
+pub fn node_of(
+    text: &[u8],
+    token: Token,
+    current: Option<NodeKind>,
+) -> Result<Option<Made>, OverLimit>
     requires { PartsIn text.now 0 (length text.now) token }
-    ensures { result ≡ made_is (kind_is current) (token_is text.now token) }
+    ensures { result ≡ made_is current (token_is text.now token) }
 {
     match token {
-        Token::String(_) => Made::Node {
+        Token::String(_) => Ok(Some(Made {
             kind: NodeKind::String,
             time: 0,
-        },
+        })),
         Token::Start {
             name,
             classes: _,
             annotation: _,
-        } => element(text, name.from, name.to, current),
-        Token::End(_) => Made::None,
+        } => Ok(element(text, name.from, name.to, current)),
+        Token::End(_) => Ok(None),
         Token::Timestamp(value) => stamp_at(text, value.from, value.to),
     }
 }
@@ -136,10 +134,11 @@ pub fn put_classes(text: &[u8], token: Token, room: &mut [u8], at: usize) -> usi
 }
 
 // Is the annotation of a node of this kind its value.
+#[tactic(auto, unfolding(format::specs::Trees::is_kind))]
 fn has_value(kind: NodeKind) -> bool
     ensures { result ≡ (is_kind (Some kind) Kind.Voice || is_kind (Some kind) Kind.Language) }
 {
-    same_kind(kind, NodeKind::Voice) || same_kind(kind, NodeKind::Language)
+    matches!(kind, NodeKind::Voice | NodeKind::Language)
 }
 
 // The annotation, of a voice or a language alone.
@@ -177,18 +176,18 @@ pub fn put_value(text: &[u8], token: Token, kind: NodeKind, room: &mut [u8], at:
 }
 
 // The kind of node that a token leaves.
-pub fn left_kind(text: &[u8], token: Token) -> MaybeKind
+pub fn left_kind(text: &[u8], token: Token) -> Option<NodeKind>
     requires { PartsIn text.now 0 (length text.now) token }
-    ensures { kind_is result ≡ left_kind (token_is text.now token) }
+    ensures { result ≡ left_kind (token_is text.now token) }
 {
     match token {
-        Token::String(_) => MaybeKind::None,
+        Token::String(_) => None,
         Token::Start {
             name: _,
             classes: _,
             annotation: _,
-        } => MaybeKind::None,
+        } => None,
         Token::End(p) => named_at(text, p.from, p.to),
-        Token::Timestamp(_) => MaybeKind::None,
+        Token::Timestamp(_) => None,
     }
 }

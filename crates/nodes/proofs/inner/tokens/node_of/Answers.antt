@@ -20,7 +20,7 @@ returns-in-String c = rw c.in-String.is refl
 
 pub returns-in-Start : goal.returns-in-Start
 unfolding made_is token_is
-returns-in-Start c = rw c.in-Start.is c.element.ensures
+returns-in-Start c = rw (c.in-Start.is, ← c.element.ensures)
 
 pub returns-in-End : goal.returns-in-End
 unfolding made_is token_is
