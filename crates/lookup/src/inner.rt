@@ -22,10 +22,8 @@ fn place_of(name: &[u8]) -> usize
     ensures { result < 256 }
 {
     let mut sum = 0;
-    let mut i = 0;
-    while i < name.len() {
-        sum = (sum * 31 + name[i] as usize) % KNOWN_ROWS;
-        i += 1;
+    for &b in name {
+        sum = (sum * 31 + b as usize) % KNOWN_ROWS;
     }
     sum
 }
