@@ -7,7 +7,6 @@ ghost use Rattle.std.specs.Prelude.{◌≡◌, ◌+◌, ◌≤◌, length, drop}
 ghost use Rattle.format.specs.Texts.{run};
 ghost use Rattle.format.specs.CueText.{blank};
 ghost use Rattle.tokenizer.specs.Tags.{in_name, start_told, tag_is, step_is};
-ghost use Rattle.tokenizer.specs.Reader.{moved_to};
 
 use format::settings::Span;
 pub use reader::{Tokenizer, token_at};
@@ -27,12 +26,11 @@ pub enum Token {
     Timestamp(Span),
 }
 
+// A token, and where the next one begins.
 #[derive(Clone, Copy)]
-pub enum Stepped {
-    // The text's end is reached.
-    None,
-    // A token, and where the next one begins.
-    Next { token: Token, next: usize },
+pub struct Stepped {
+    pub token: Token,
+    pub next: usize,
 }
 
 #[tactic(auto, unfolding(format::specs::CueText::blank))]
@@ -101,38 +99,21 @@ fn tag(text: &[u8], from: usize, to: usize) -> Token
     start_tag(text, from, to)
 }
 
-// The token that begins at a place. A tag ends at the first `>`, text at the next `<`.
-fn step(text: &[u8], at: usize) -> Stepped
+// The token that begins at a place; none at the text's end. A tag ends at the first `>`, text at the next `<`.
+fn step(text: &[u8], at: usize) -> Option<Stepped>
     ensures { result ≡ step_is text.now at }
 {
     if text.len() <= at {
-        return Stepped::None;
+        return None;
     }
     if text[at] != b'<' {
         let to = past(text, at, ByteKind::Until(b'<'));
-        return Stepped::Next {
-            token: Token::String(Span { from: at, to }),
-            next: to,
-        };
+        let token = Token::String(Span { from: at, to });
+        return Some(Stepped { token, next: to });
     }
     let from = at + 1;
     let to = past(text, from, ByteKind::Until(b'>'));
     let token = tag(text, from, to);
-    if to < text.len() {
-        return Stepped::Next {
-            token,
-            next: to + 1,
-        };
-    }
-    Stepped::Next { token, next: to }
-}
-
-// Where the next token begins after a step; where there is none, the same place.
-fn place_after(stepped: Stepped, at: usize) -> usize
-    ensures { result ≡ moved_to stepped at }
-{
-    match stepped {
-        Stepped::None => at,
-        Stepped::Next { token: _, next } => next,
-    }
+    let next = if to < text.len() { to + 1 } else { to };
+    Some(Stepped { token, next })
 }

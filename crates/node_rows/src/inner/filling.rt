@@ -14,7 +14,7 @@ use format::kinds::NodeKind;
 use format::rows::{NODE_KIND, NODE_PARENT, NodeRow};
 use nodes::inner::tokens::{Made, left_kind, node_of, put_classes, put_value};
 use nodes::kinds::{is_kind, kind_numbered};
-use tokenizer::{Stepped, Token};
+use tokenizer::Token;
 
 // How far the table and the room are filled, and the current node: 0 for the root, else its index and one.
 #[derive(Clone, Copy)]
@@ -149,11 +149,10 @@ pub fn fill(text: &[u8], room: &mut [u8], rows: &mut [NodeRow])
         current: 0,
     };
     loop {
-        let step = tokenizer::token_at(text, at);
-        let Stepped::Next { token, next } = step else {
+        let Some(found) = tokenizer::token_at(text, at) else {
             return;
         };
-        filled = turn(text, token, filled, room, rows);
-        at = next;
+        filled = turn(text, found.token, filled, room, rows);
+        at = found.next;
     }
 }

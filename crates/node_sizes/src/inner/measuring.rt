@@ -14,7 +14,7 @@ use format::{OverLimit, TreeSize};
 use nodes::inner::tokens::{left_kind, node_of, put_classes, put_value};
 use nodes::kinds::{is_kind, kind_numbered};
 use stack::inner::kinds::Stack;
-use tokenizer::{Stepped, Token};
+use tokenizer::Token;
 
 // What the tokens passed so far come to: the open nodes, and how many nodes and bytes of strings there are.
 #[derive(Clone, Copy)]
@@ -108,15 +108,14 @@ fn measure(text: &[u8], words: &mut [u64]) -> Result<TreeSize, OverLimit>
         used: 0,
     };
     loop {
-        let stepped = tokenizer::token_at(text, at);
-        let Stepped::Next { token, next } = stepped else {
+        let Some(found) = tokenizer::token_at(text, at) else {
             return Ok(TreeSize {
                 count: m.count,
                 used: m.used,
             });
         };
-        m = turn(text, token, m, words)?;
-        at = next;
+        m = turn(text, found.token, m, words)?;
+        at = found.next;
     }
 }
 
