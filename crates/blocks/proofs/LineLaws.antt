@@ -17,6 +17,7 @@ use Rattle.format.specs.Bytes.{ascii, lf}
 use Rattle.format.specs.Texts.{starts_with, is_empty, all, run}
 use Rattle.format.specs.Lines.{split_list_at, split, before, on_first}
 use Rattle.format.specs.Blocks.{Line, lines_at, holds_arrow}
+use Rattle.laws.proofs.Lines.{splits}
 use Rattle.laws.proofs.Tests.{by-test, and_left, and_right, and-false, and-true}
 use Rattle.laws.proofs.Runs.{run-next, run-stop, run_end, run_length, run_take}
 use Rattle.values.proofs.NumberLaws.{is_empty-not}
@@ -78,6 +79,17 @@ ends_few [] zero = omega arith
 ends_few [] (suc n) = omega arith
 ends_few (b ∷ s) zero = omega arith
 ends_few (b ∷ s) (suc n) = by-test (eqb b lf) (λ y. rw y (omega (arith, ends_few s n))) (λ z. rw z (omega (arith, ends_few s n)))
+
+-- a text has one line more than LF
+pub ends-split : (x : List ℕ) → length (split x) ≡ suc (line_ends x)
+unfolding line_ends split_list_at before on_first
+ends-split [] = refl
+ends-split (b ∷ x) =
+    let t = splits x in
+    let n = ends-split x in
+    by-test (eqb b lf)
+    (λ y. rw y (omega arith))
+    (λ z. rw (z, t.is) (omega (arith, rw t.is at n)))
 
 -- as many as bytes in a run of LF, and none in a line
 ends_empty : (x : List ℕ) → line_ends (run (λ b. eqb b lf) x) ≡ length (run (λ b. eqb b lf) x)

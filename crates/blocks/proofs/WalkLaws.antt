@@ -5,7 +5,7 @@ use mathlib.Core.Bool.{Bool, true, false, not, ◌&&◌, ◌||◌, true≢false}
 use mathlib.Core.List.{List, [], ◌∷◌, ◌++◌}
 use native.Mathlib.Omega.{arith}
 use lib.Dec.{eqb, ltb}
-use lib.ListN.{length, get_or, take}
+use lib.ListN.{length, length-drop, get_or, take, drop}
 use borrow.Author.Tests.{eqb-true, eqb-false, ltb-true, ltb-false}
 use Rattle.format.specs.Bytes.{lf}
 use Rattle.format.specs.Texts.{is_empty}
@@ -13,15 +13,19 @@ use Rattle.format.specs.Blocks.{Line, between, blocks_from, blocks, holds_arrow}
 use Rattle.format.specs.Lists.{Item, nothing, cue, style, region, is_cue, items_from, item_over}
 use Rattle.format.specs.LineNumbers.{block_of_cue, cue_blocks_from, first_number, line_span}
 use Rattle.laws.proofs.Tests.{by-test, and_left, and_right}
+use Rattle.laws.proofs.Standing.{length-bytes}
 use Rattle.laws.proofs.Runs.{run-next, run-stop, run_end, run_at, run-after, run_length}
 use Rattle.blocks.specs.declared.collecting.Head.{Head}
 use Rattle.blocks.specs.declared.collecting.Stop.{Stop}
 use Rattle.blocks.specs.declared.collecting.Why.{Why}
 use Rattle.std.specs.Prelude.{Option, None, Some}
+use denote.Enum.Bare.{sameb}
+use Rattle.blocks.specs.contracts.items.ItemKind.{the_type}
+use Rattle.blocks.specs.declared.items.ItemKind.{ItemKind}
 use Rattle.blocks.specs.declared.collecting.Block.{Block}
 use Rattle.blocks.specs.Collecting.{line_ends, lines_from, head_after, collect_from, opening, in_line, line_at, first_end, header_end, past_empty, next_is, is_end, WhyIs}
-use Rattle.blocks.specs.Items.{meaning_at, PlacesIn, NextAt, NextIs, item_is, kind_is, kind_over}
-use Rattle.blocks.proofs.LineLaws.{ends-run, line_from, lines_next, lines_end, collect_empty, collect_arrow, collect_line}
+use Rattle.blocks.specs.Items.{meaning_at, PlacesIn, BlockAt, NextAt, NextIs, item_is, kind_is, kind_over}
+use Rattle.blocks.proofs.LineLaws.{ends_few, ends-split, ends-run, line_from, lines_next, lines_end, collect_empty, collect_arrow, collect_line}
 use Rattle.blocks.proofs.BlockLaws.{fresh_empty, fresh_after, block_at, header_at, blocks-after, no_blocks, line_inside}
 use Rattle.blocks.proofs.ItemLaws.{no_bytes, some_bytes}
 
@@ -151,6 +155,20 @@ pub line_after :
 line_after s at b n next e l =
     omega (arith, next.skipped, next.empties, next.block.numbers (not_end s b.stop.why b.stop.at next.stopped l))
 
+-- a block has no more lines than the text has bytes, and one
+pub few_lines : (s : List ℕ) (b : Block) → BlockAt s b → b.stop.lines ≤ length s + 1
+few_lines s b block =
+    let own = take (b.stop.to - b.from) (drop b.from s) in
+    omega (
+      arith,
+      block.counted,
+      length-bytes block.lines,
+      ap length block.covers,
+      ends-split own,
+      ends_few (drop b.from s) (b.stop.to - b.from),
+      length-drop b.from s,
+    )
+
 -- a block takes at least one byte
 pub moves : (s : List ℕ) (at : ℕ) (b : Block) → NextAt s at b → at < b.stop.at
 moves s at b n =
@@ -162,6 +180,14 @@ pub places_in : (s : List ℕ) (at : ℕ) (b : Block) → NextAt s at b → Plac
 places_in s at b n =
     let block = n.block in
     (block.starts, block.first_end_lem, block.end_to, omega (arith, block.to_at, block.inside))
+
+-- the test for a number above its limit, as the code makes it
+pub over_told : (k : ItemKind) → sameb the_type k ItemKind.Over ≡ kind_over k
+over_told ItemKind.Nothing = refl
+over_told ItemKind.Over = refl
+over_told ItemKind.Cue = refl
+over_told ItemKind.Style = refl
+over_told ItemKind.Region = refl
 
 pub over-is : (i : Item) → kind_over (kind_is (item_is i)) ≡ item_over i
 unfolding item_over

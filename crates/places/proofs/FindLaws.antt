@@ -21,7 +21,6 @@ use Rattle.format.specs.LineNumbers.{block_of_cue, cue_blocks_from, cue_blocks, 
 use Rattle.format.specs.Replacing.{first_line, last_line, is_there, region_names}
 use Rattle.format.specs.declared.settings.Span.{Span}
 use Rattle.laws.proofs.Tests.{by-test, or_true, or_false}
-use Rattle.laws.proofs.Lines.{splits}
 use Rattle.laws.proofs.Standing.{All, ItemStands, items_stand, blocks_follow, length-bytes}
 use Rattle.blocks.specs.declared.collecting.Stop.{Stop}
 use Rattle.blocks.specs.declared.items.Item as Read
@@ -29,22 +28,11 @@ use Rattle.blocks.specs.declared.items.Item.TheVariants as Made
 use Rattle.blocks.specs.Collecting.{line_ends}
 use Rattle.blocks.specs.Items.{meaning_at, BlockAt, NextAt, item_is}
 use Rattle.laws.proofs.Rows.{stands_bytes}
-use Rattle.blocks.proofs.LineLaws.{ends_more}
+use Rattle.blocks.proofs.LineLaws.{ends-split, ends_more}
 use Rattle.blocks.proofs.WalkLaws.{fresh, items-next, cues-next, moves}
 use Rattle.places.specs.declared.inner.finding.Found.{Found}
 use Rattle.places.specs.Places.{OwnLines}
 use Rattle.places.specs.Finding.{with_item, FoundIn}
-
--- a text has one line more than LF
-pub ends-split : (x : List ℕ) → length (split x) ≡ suc (line_ends x)
-unfolding line_ends split_list_at before on_first
-ends-split [] = refl
-ends-split (b ∷ x) =
-    let t = splits x in
-    let n = ends-split x in
-    by-test (eqb b lf)
-    (λ y. rw y (omega arith))
-    (λ z. rw (z, t.is) (omega (arith, rw t.is at n)))
 
 -- the block of a cue, by its places
 module _ (s : List ℕ) (number from : ℕ) (st : Stop) (b : BlockAt s from st) (is : get_or (cue_blocks s) number [] ≡ b.lines) where

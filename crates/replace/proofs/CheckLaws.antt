@@ -28,8 +28,7 @@ use Rattle.writable.specs.Faults.{test_number}
 use Rattle.writable.proofs.FaultLaws.{none-fails, number_is_lem}
 use Rattle.blocks.specs.Collecting.{line_ends}
 use Rattle.places.specs.Places.{OwnLines}
-use Rattle.blocks.proofs.LineLaws.{ends_next}
-use Rattle.places.proofs.FindLaws.{ends-split}
+use Rattle.blocks.proofs.LineLaws.{ends-split, ends_next}
 use Rattle.replace.specs.NewCue.{gap_answer, tested_answer, counted_answer, Outcome}
 
 -- no line end stands before the first byte
