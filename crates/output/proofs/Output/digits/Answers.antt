@@ -6,9 +6,8 @@ use lib.ListN.{length, take, drop, set, length-set}
 use lib.Seq.{slice, slice_empty, take-set-lt, set_split, drop_at, length-take-le, append_snoc}
 use Rattle.format.specs.Written.{last_digits}
 use Rattle.output.proofs.PutLaws.{puts_as}
-use Rattle.output.proofs.digits.Goals as goal
+use Rattle.output.proofs.Output.digits.Goals as goal
 
--- `output::digits` meets its contract.
 -- a digit stored before a part stands first in it
 slice_set : (made : List ℕ) (j k d : ℕ) → j < k → k ≤ length made → slice j k (set made j d) ≡ d ∷ slice (suc j) k made
 slice_set made j k d h l =
@@ -27,32 +26,28 @@ one_more_lem made (suc j) k rest h l m =
     let e : suc j - 1 ≡ j = omega arith in
     rw (e, slice_set made j k (0x30 + rest % 10) (omega arith) m) (append_snoc (last_digits j (rest / 10)) _ _)
 
-pub loop-left-init : goal.loop-left-init
-loop-left-init c =
+pub loop-i-init : goal.loop-i-init
+loop-i-init c =
     let k = c.args.k in
-    (omega arith, refl, sym (rw (slice_empty k) (append-nil (last_digits k c.args.n))))
+    (refl, sym (rw (slice_empty k) (append-nil (last_digits k c.args.n))))
 
-pub loop-left-preserved : goal.loop-left-preserved
-loop-left-preserved c =
+pub loop-i-preserved : goal.loop-i-preserved
+loop-i-preserved c =
     let k = c.args.k in
-    let made = c.loop-left.made in
-    let left = c.loop-left.left in
-    let rest = c.loop-left.rest in (
-      omega arith,
-      length-set made (left - 1) (0x30 + rest % 10) ∙ c.loop-left.invariant.1,
-      c.loop-left.invariant.2 ∙ one_more_lem made left k rest (omega arith) (omega arith) (omega arith),
+    let made = c.loop-i.made in
+    let left = c.loop-i.i in
+    let rest = c.loop-i.rest in (
+      length-set made (left - 1) (0x30 + rest % 10) ∙ c.loop-i.invariant.0,
+      c.loop-i.invariant.1 ∙ one_more_lem made left k rest (omega arith) (omega arith) (omega arith),
     )
 
 pub slice_bounds-bytes-end : goal.slice_bounds-bytes-end
 slice_bounds-bytes-end c =
-    sym (length-take-le c.args.k c.loop-left.made (omega arith))
-
--- TODO no goal: same_length : tie.Need-same-length invariant-loop decreases-loop
--- same_length c = c.before.before.bytes.auto.1.0
+    sym (length-take-le c.args.k c.loop-i.made (omega arith))
 
 pub returns : goal.returns
 unfolding last_digits
 returns c =
     let k = c.args.k in
-    let e : c.loop-left.left ≡ 0 = omega arith in
-    puts_as (sym (c.loop-left.invariant.2 ∙ ap (λ j. last_digits j c.loop-left.rest ++ slice j k c.loop-left.made) e)) c.bytes.ensures
+    let e : c.loop-i.i ≡ 0 = omega arith in
+    puts_as (sym (c.loop-i.invariant.1 ∙ ap (λ j. last_digits j c.loop-i.rest ++ slice j k c.loop-i.made) e)) c.bytes.ensures
