@@ -9,12 +9,12 @@ use native.Mathlib.Omega.{arith}
 use lib.Dec.{eqb, leb, ltb}
 use lib.ListN.{length, get_or, drop, drop_of_length-le}
 use lib.Seq.{drop-cons}
-use borrow.Author.Tests.{lt-ltb, le-ltb, ltb-true, ltb-false, leb-true}
+use borrow.Author.Tests.{lt-ltb, le-leb, lt-leb, ltb-true, ltb-false, leb-true}
 use Rattle.format.specs.Bytes.{ascii, digit}
 use Rattle.format.specs.Texts.{is_empty, starts_with, all}
 use Rattle.format.specs.Numbers.{number_from, number, some_digits}
 use Rattle.format.specs.Fields.{field_number}
-use Rattle.laws.proofs.Tests.{by-test, and_left, and_right, and-true}
+use Rattle.laws.proofs.Tests.{by-test, and_left, and_right, and-true, and-false}
 use Rattle.fields.specs.Fields.{begins_well, digits_from}
 
 -- no bytes, too many, one, or more
@@ -23,7 +23,7 @@ unfolding begins_well is_empty
 begins-none [] e = refl
 begins-none (b ∷ f) e = absurd (omega arith)
 
-pub begins-long : (f : List ℕ) → 12 < length f → begins_well f ≡ false
+begins-long : (f : List ℕ) → 12 < length f → begins_well f ≡ false
 unfolding begins_well is_empty
 begins-long [] l = absurd (omega arith)
 begins-long (b ∷ f) l = rw (lt-ltb 12 (length (b ∷ f)) l) refl
@@ -38,13 +38,17 @@ begins_alone (b ∷ []) e = rw (and-true (eqb b 0x30)) (zero_alone (eqb b 0x30))
     zero_alone false = refl
 begins_alone (b ∷ (c ∷ f)) e = absurd (omega arith)
 
-pub begins-first : (f : List ℕ) → 1 < length f → length f ≤ 12 → begins_well f ≡ not (eqb (get_or f 0 0) 0x30)
+one_test : (n : ℕ) (t : Bool) → not (ltb 12 n) && not t ≡ not t && leb n 12
+one_test n t =
+    by-test (ltb 12 n)
+    (λ y. rw (y, lt-leb n 12 (ltb-true 12 n y)) (sym (and-false (not t) false refl)))
+    (λ z. rw (z, le-leb n 12 (ltb-false 12 n z)) (sym (and-true (not t))))
+
+pub begins-first : (f : List ℕ) → 1 < length f → begins_well f ≡ not (eqb (get_or f 0 0) 0x30) && leb (length f) 12
 unfolding begins_well is_empty starts_with
-begins-first [] l h = absurd (omega arith)
-begins-first (b ∷ f) l h =
-    rw
-    (le-ltb 12 (length (b ∷ f)) h, lt-ltb 1 (length (b ∷ f)) l, and-true (eqb b 0x30), and-true (eqb b 0x30))
-    refl
+begins-first [] l = absurd (omega arith)
+begins-first (b ∷ f) l =
+    rw (lt-ltb 1 (length (b ∷ f)) l, and-true (eqb b 0x30), and-true (eqb b 0x30)) (one_test (length (b ∷ f)) (eqb b 0x30))
 
 pub begins-short : (f : List ℕ) → begins_well f ≡ true → length f ≤ 12
 begins-short f e =
