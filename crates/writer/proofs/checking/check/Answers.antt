@@ -1,16 +1,20 @@
 use mathlib.Core.Path.{◌∙◌}
+use Rattle.format.specs.Writing.{not_writable, list_number}
 use Rattle.writer.proofs.CheckLaws.{refuses, goes_on}
 use Rattle.writer.proofs.checking.check.Goals as goal
 
 pub returns-in-At : goal.returns-in-At
+unfolding not_writable list_number
 returns-in-At c =
     λ answer. refuses 0 c.first_style.ensures _ c.in-At.is
 
 pub returns-in-At-first_region : goal.returns-in-At-first_region
+unfolding not_writable list_number
 returns-in-At-first_region c =
     λ answer. refuses 1 c.first_region.ensures _ c.in-At-first_region.is ∙ goes_on 0 c.first_style.ensures _ c.in_default.is
 
 pub returns-in-At-first_cue : goal.returns-in-At-first_cue
+unfolding not_writable list_number
 returns-in-At-first_cue c =
     λ answer.
     refuses 2 c.first_cue.ensures _ c.in-At-first_cue.is
