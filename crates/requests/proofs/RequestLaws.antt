@@ -3,7 +3,7 @@ use Prim.Native.Nat.{ℕ, ◌+◌, ◌-◌, ◌≤◌, min}
 use mathlib.Core.Path.{◌≡◌, refl, sym, ap, ◌∙◌}
 use mathlib.Core.Bool.{true, false, ◌&&◌}
 use mathlib.Core.List.{List, [], ◌++◌}
-use Rattle.std.specs.Prelude.{Option, None, Some, option_and_then}
+use Rattle.std.specs.Prelude.{Option, None, Some, option_map}
 use Rattle.std.specs.Option.{option_map_or}
 use native.Mathlib.Omega.{arith}
 use lib.Dec.{eqb}
@@ -22,19 +22,17 @@ use Rattle.laws.proofs.Standing.{stands_cue_settings}
 use Rattle.laws.proofs.Rows.{stands_bytes}
 use Rattle.values.specs.Tokens.{part_of}
 use Rattle.output.specs.Puts.{room_with}
-use Rattle.fields.specs.Fields.{number_is, length_is, text_of}
+use Rattle.fields.specs.Fields.{text_of}
 use Rattle.fields.proofs.EscapeLaws.{text-length}
-use Rattle.requests.specs.Asked.{asked_is, numbers_is, lengths_is, numbers_in, lengths_in, name_of, rest_of, asking_is}
-use Rattle.requests.specs.declared.Asked.TheVariants as Asked
+use Rattle.requests.specs.Asked.{asking_for, numbers_is, lengths_is, numbers_in, lengths_in, name_of, rest_of, asking_is}
+use Rattle.requests.specs.declared.Asking.{Asking}
 use Rattle.requests.specs.declared.Numbers.{Numbers}
-use Rattle.requests.specs.declared.NumbersRead.TheVariants as NumbersRead
 use Rattle.requests.specs.declared.Lengths.{Lengths}
-use Rattle.requests.specs.declared.LengthsRead.TheVariants as LengthsRead
 
 -- where there is no request, none is answered and nothing is put
 pub bad_is :
-    (o : Option Request) (room : List ℕ) → o ≡ None → (Asked.Bad ≡ asked_is o) × (room ≡ room_with 0 (option_map_or lent_text o []) room)
-unfolding asked_is room_with
+    (o : Option Request) (room : List ℕ) → o ≡ None → (◌≡◌ {A = Option Asking} None (option_map asking_for o)) × (room ≡ room_with 0 (option_map_or lent_text o []) room)
+unfolding room_with
 bad_is o room e = rw e (refl, refl)
 
 -- how many fields there are, and the word that the first one is
@@ -54,7 +52,7 @@ module _ (line : List ℕ) where
 -- numbers that are read or bad, whatever is asked for besides
 module _ (i : Option (List ℕ)) (s : Flagged CueSettings) (t : Option (List ℕ)) where
   with_bad :
-      (a b c : Option ℕ) → numbers_is (number_is a) (number_is b) (number_is c) ≡ NumbersRead.Bad → request_with a b c i s t ≡ None
+      (a b c : Option ℕ) → numbers_is a b c ≡ None → request_with a b c i s t ≡ None
   unfolding request_with
   with_bad None b c e = refl
   with_bad (Some n) None c e = refl
@@ -63,7 +61,7 @@ module _ (i : Option (List ℕ)) (s : Flagged CueSettings) (t : Option (List ℕ
 
   with_numbers :
       (n : Numbers) (a b c : Option ℕ)
-      → numbers_is (number_is a) (number_is b) (number_is c) ≡ NumbersRead.Good n
+      → numbers_is a b c ≡ Some n
       → request_with a b c i s t ≡ request_with (Some n.number) (Some n.start) (Some n.end) i s t
   with_numbers n None b c e = let z : ◌≡◌ {A = ℕ} 0 1 = cc in absurd (omega arith)
   with_numbers n (Some x) None c e = let z : ◌≡◌ {A = ℕ} 0 1 = cc in absurd (omega arith)
@@ -77,7 +75,7 @@ module _ (n : Numbers) (s : Flagged CueSettings) where
   abbrev given : Option (List ℕ) → Option (List ℕ) → Option Request
   given i t = request_with (Some n.number) (Some n.start) (Some n.end) i s t
 
-  text_bad : (i t : Option (List ℕ)) → lengths_is (length_is i) (length_is t) ≡ LengthsRead.Bad → given i t ≡ None
+  text_bad : (i t : Option (List ℕ)) → lengths_is i t ≡ None → given i t ≡ None
   unfolding request_with
   text_bad None t e = refl
   text_bad (Some x) None e = refl
@@ -91,12 +89,12 @@ module _ (n : Numbers) (s : Flagged CueSettings) where
 
   -- what is asked for then, and what is put
   record Given (i t : Option (List ℕ)) (l : Lengths) : Type 0 where
-    asked : Asked.Cue (asking_is n s.value.settings l (length s.value.region.bytes)) ≡ asked_is (given i t)
+    asked : Some (asking_is n s.value.settings l (length s.value.region.bytes)) ≡ option_map asking_for (given i t)
     text : text_of i ++ text_of t ++ s.value.region.bytes ≡ option_map_or lent_text (given i t) []
 
   given_is :
-      (i t : Option (List ℕ)) (l : Lengths) → lengths_is (length_is i) (length_is t) ≡ LengthsRead.Good l → s.over ≡ false → Given i t l
-  unfolding request_with asked_is asking_is lent_text id_span text_span name_span lent_entry
+      (i t : Option (List ℕ)) (l : Lengths) → lengths_is i t ≡ Some l → s.over ≡ false → Given i t l
+  unfolding request_with asking_for asking_is lent_text id_span text_span name_span lent_entry
   given_is None t l e f = let z : ◌≡◌ {A = ℕ} 0 1 = cc in absurd (omega arith)
   given_is (Some x) None l e f = let z : ◌≡◌ {A = ℕ} 0 1 = cc in absurd (omega arith)
   given_is (Some x) (Some y) l e f =
@@ -105,16 +103,16 @@ module _ (n : Numbers) (s : Flagged CueSettings) where
 
 -- the same of the fields of a line
 module _ (fs : List (List ℕ)) where
-  pub numbers_bad : numbers_in fs ≡ NumbersRead.Bad → request_of fs ≡ None
+  pub numbers_bad : numbers_in fs ≡ None → request_of fs ≡ None
   unfolding request_of
   numbers_bad e = with_bad _ _ _ (field_number (get_or fs 1 [])) (field_number (get_or fs 2 [])) (field_number (get_or fs 3 [])) e
 
   module _ (n : Numbers) where
-    pub numbers_are : numbers_in fs ≡ NumbersRead.Good n → request_of fs ≡ rest_of n fs
+    pub numbers_are : numbers_in fs ≡ Some n → request_of fs ≡ rest_of n fs
     unfolding request_of rest_of
     numbers_are e = with_numbers _ _ _ n (field_number (get_or fs 1 [])) (field_number (get_or fs 2 [])) (field_number (get_or fs 3 [])) e
 
-    pub texts_bad : lengths_in fs ≡ LengthsRead.Bad → rest_of n fs ≡ None
+    pub texts_bad : lengths_in fs ≡ None → rest_of n fs ≡ None
     unfolding rest_of
     texts_bad e = text_bad n _ (unescaped (get_or fs 4 [])) (unescaped (get_or fs 6 [])) e
 
@@ -122,9 +120,9 @@ module _ (fs : List (List ℕ)) where
     unfolding rest_of
     settings-over e = over_bad n _ (unescaped (get_or fs 4 [])) (unescaped (get_or fs 6 [])) e
 
-    module _ (l : Lengths) (e : lengths_in fs ≡ LengthsRead.Good l) (f : (settings_field (get_or fs 5 [])).over ≡ false) where
+    module _ (l : Lengths) (e : lengths_in fs ≡ Some l) (f : (settings_field (get_or fs 5 [])).over ≡ false) where
       pub asked_is_lem :
-          Asked.Cue (asking_is n (settings_field (get_or fs 5 [])).value.settings l (length (name_of (get_or fs 5 [])))) ≡ asked_is (rest_of n fs)
+          Some (asking_is n (settings_field (get_or fs 5 [])).value.settings l (length (name_of (get_or fs 5 [])))) ≡ option_map asking_for (rest_of n fs)
       unfolding rest_of name_of
       asked_is_lem = (given_is n (settings_field (get_or fs 5 [])) (unescaped (get_or fs 4 [])) (unescaped (get_or fs 6 [])) l e f).asked
 
@@ -177,7 +175,7 @@ fields_fit line =
 -- so the places in the room are numbers
 lengths_are :
     (i t : Option (List ℕ)) (l : Lengths)
-    → lengths_is (length_is i) (length_is t) ≡ LengthsRead.Good l
+    → lengths_is i t ≡ Some l
     → l.id + l.text ≡ length (text_of i) + length (text_of t)
 lengths_are None t l e = let z : ◌≡◌ {A = ℕ} 0 1 = cc in absurd (omega arith)
 lengths_are (Some x) None l e = let z : ◌≡◌ {A = ℕ} 0 1 = cc in absurd (omega arith)
@@ -187,7 +185,7 @@ lengths_are (Some x) (Some y) l e =
 
 pub asked-fits :
     (line : List ℕ) (l : Lengths)
-    → lengths_in (fields line) ≡ LengthsRead.Good l
+    → lengths_in (fields line) ≡ Some l
     → l.id + l.text + length (name_of (get_or (fields line) 5 [])) ≤ length line
 asked-fits line l e =
     let fs = fields line in
