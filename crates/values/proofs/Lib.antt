@@ -5,3 +5,4 @@ pub mod StepLaws
 mod TimeLaws
 pub mod NameLaws
 pub mod AnswerLaws
+pub mod WordLaws

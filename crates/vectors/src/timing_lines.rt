@@ -8,7 +8,7 @@ use format::times::{Stamp, Timing, TimingLine};
 use listing::printing;
 use std::io;
 use std::io::Write;
-use values::numbers::{LineCount, LineNumber, Percentage};
+use values::numbers::NumberError;
 
 // Codes of what was found in a text: no number, one above its limit, a number from 0 on, one below 0.
 const FAILS: u64 = 0;
@@ -29,33 +29,27 @@ fn print_found<W: Write>(out: &mut W, code: u64, n: u64) -> io::Result<()> {
 
 fn print_percentage<W: Write>(out: &mut W, text: &[u8]) -> io::Result<()> {
     match values::numbers::read_percentage(text) {
-        Percentage::Bad => print_found(out, FAILS, 0),
-        Percentage::Good(n) => print_found(out, FOUND, n),
+        Some(n) => print_found(out, FOUND, n),
+        None => print_found(out, FAILS, 0),
     }
 }
 
 fn print_line_number<W: Write>(out: &mut W, text: &[u8]) -> io::Result<()> {
     match values::numbers::read_line_number(text) {
-        LineNumber::Bad => print_found(out, FAILS, 0),
-        LineNumber::Over => print_found(out, OVER, 0),
-        LineNumber::Good {
-            negative,
-            millionths,
-        } => {
-            if negative {
-                print_found(out, BELOW, millionths)
-            } else {
-                print_found(out, FOUND, millionths)
-            }
+        Ok(n) => {
+            let code = if n.negative { BELOW } else { FOUND };
+            print_found(out, code, n.millionths)
         }
+        Err(NumberError::Bad) => print_found(out, FAILS, 0),
+        Err(NumberError::Over) => print_found(out, OVER, 0),
     }
 }
 
 fn print_line_count<W: Write>(out: &mut W, text: &[u8]) -> io::Result<()> {
     match values::numbers::read_line_count(text) {
-        LineCount::Bad => print_found(out, FAILS, 0),
-        LineCount::Over => print_found(out, OVER, 0),
-        LineCount::Good(n) => print_found(out, FOUND, n),
+        Ok(n) => print_found(out, FOUND, n),
+        Err(NumberError::Bad) => print_found(out, FAILS, 0),
+        Err(NumberError::Over) => print_found(out, OVER, 0),
     }
 }
 
