@@ -3,7 +3,7 @@
 use Prim.Native.Nat.{ℕ, ◌+◌, ◌*◌, ◌-◌, ◌≤◌, ◌<◌}
 use mathlib.Core.Path.{◌≡◌, refl, sym, ap, ◌∙◌}
 use mathlib.Core.Bool.{true, false, ◌&&◌, ◌||◌}
-use mathlib.Core.List.{List, [], ◌∷◌}
+use mathlib.Core.List.{List, [], ◌∷◌, map}
 use Rattle.std.specs.Prelude.{Option, None, Some, Ok, Err}
 use native.Mathlib.Omega.{arith}
 use lib.Dec.{ltb}
@@ -23,8 +23,7 @@ use Rattle.tokenizer.proofs.Spans.{wider}
 use Rattle.format.specs.declared.settings.Span.{Span}
 use Rattle.nodes.specs.Tokens.{Gift, element_made, stamp_made, made_is, left_kind}
 use Rattle.nodes.specs.declared.inner.tokens.Made.{Made}
-use Rattle.stack.specs.Kinds.{kinds, Holds, Emptied}
-use Rattle.stack.specs.declared.inner.kinds.Stack.{Stack}
+use Rattle.stack.specs.Kinds.{kinds}
 use Rattle.node_laws.specs.Sizes.{kinds_of, top_kind, leaving_kinds, after_made, kinds_after, made_count, made_length, count_from, length_from}
 use Rattle.node_sizes.specs.Needs.{Sized}
 use Rattle.node_sizes.specs.Turns.{opened, made_below, Ready, Passed}
@@ -117,31 +116,36 @@ module _ (s : List ℕ) (at : ℕ) (t : Token) (next : ℕ) (f : TokenAt s at t 
   unfolding kinds_after
   depth = depth_made (left_kind (token_is s t)) (made_is (top_kind ks) (token_is s t)) refl
 
--- what is known at a place of the text, the open nodes being on the stack in these words, which are as many as were lent
-pub record Reached (s lent : List ℕ) (at : ℕ) (m : Measured) (words : List ℕ) : Type 0 where
+-- what is known at a place of the text; there are so many lent words
+pub record Reached (s : List ℕ) (lent at : ℕ) (m : Measured) : Type 0 where
   pub inside : at ≤ length s
-  pub holds : Holds m.stack words
-  pub long : length words ≡ length lent
-  pub count : m.count + count_from (opened m.stack words) (cue_tokens (drop at s)) ≡ count_from [] (cue_tokens s)
-  pub used : m.used + length_from (opened m.stack words) (cue_tokens (drop at s)) ≡ length_from [] (cue_tokens s)
+  pub long : length m.stack.words.now ≡ lent
+  pub count : m.count + count_from (opened m.stack) (cue_tokens (drop at s)) ≡ count_from [] (cue_tokens s)
+  pub used : m.used + length_from (opened m.stack) (cue_tokens (drop at s)) ≡ length_from [] (cue_tokens s)
   pub over : any_time_over (cue_tokens (drop at s)) ≡ any_time_over (cue_tokens s)
-  pub deep : at < length s → 3 * length (opened m.stack words) ≤ at
+  pub deep : at < length s → 3 * length (opened m.stack) ≤ at
 
-pub reached_start : (s words : List ℕ) (r : Stack) → Emptied r words → Reached s words 0 (record { stack = r; count = 0; used = 0 }) words
-reached_start s words r e =
+pub reached_start :
+    (s : List ℕ) (lent : ℕ) (m : Measured)
+    → kinds m.stack ≡ []
+    → length m.stack.words.now ≡ lent
+    → m.count ≡ 0
+    → m.used ≡ 0
+    → Reached s lent 0 m
+reached_start s lent m e l c u =
+    let none : opened m.stack ≡ [] = ap (map kind_numbered) e in
     record {
       inside = omega arith;
-      holds = e.holds;
-      long = refl;
-      count = rw e.is (omega arith);
-      used = rw e.is (omega arith);
+      long = l;
+      count = rw none (omega arith);
+      used = rw none (omega arith);
       over = refl;
-      deep = λ h. rw e.is (omega arith);
+      deep = λ h. rw none (omega arith);
     }
 
-module _ (s lent : List ℕ) (at : ℕ) (m : Measured) (words : List ℕ) (reached : Reached s lent at m words) where
+module _ (s : List ℕ) (lent at : ℕ) (m : Measured) (reached : Reached s lent at m) where
   abbrev ks : List NodeKind
-  ks = opened m.stack words
+  ks = opened m.stack
 
   rest : length s ≤ at → cue_tokens (drop at s) ≡ []
   unfolding cue_tokens cue_tokens_from visit_end is_empty
@@ -162,13 +166,13 @@ module _ (s lent : List ℕ) (at : ℕ) (m : Measured) (words : List ℕ) (reach
 
   module _ (t : Token) (next : ℕ) (f : TokenAt s at t next) where
     count-first :
-        count_from ks (cue_tokens (drop at s)) ≡ made_count (made_below s t m words) + count_from (kinds_after ks (token_is s t)) (cue_tokens (drop next s))
+        count_from ks (cue_tokens (drop at s)) ≡ made_count (made_below s t m) + count_from (kinds_after ks (token_is s t)) (cue_tokens (drop next s))
     unfolding count_from
     count-first = ap (count_from ks) f.first
 
     length-first :
         length_from ks (cue_tokens (drop at s))
-        ≡ made_length (made_below s t m words) (token_is s t) + length_from (kinds_after ks (token_is s t)) (cue_tokens (drop next s))
+        ≡ made_length (made_below s t m) (token_is s t) + length_from (kinds_after ks (token_is s t)) (cue_tokens (drop next s))
     unfolding length_from
     length-first = ap (length_from ks) f.first
 
@@ -179,24 +183,22 @@ module _ (s lent : List ℕ) (at : ℕ) (m : Measured) (words : List ℕ) (reach
     pub reached_over : token_over (token_is s t) ≡ true → any_time_over (cue_tokens s) ≡ true
     reached_over y = sym (rw y at over_first)
 
-    pub ready : length s ≤ max_text → length s ≤ 63 * length lent → Ready s t m words
+    pub ready : length s ≤ max_text → length s ≤ 63 * lent → Ready s t m
     ready short room =
         let far : at < length s = omega (arith, f.moves, f.inside) in
         record {
           parts = wider s t 0 at next (length s) (omega arith) f.inside (omega arith) f.parts;
           short = short;
-          holds = reached.holds;
-          room = omega (arith, reached.deep far, reached.long, length-map (kinds m.stack words) kind_numbered);
+          room = omega (arith, reached.deep far, reached.long, length-map (kinds m.stack) kind_numbered);
           count = omega (arith, reached.count, count-bound s);
           used = omega (arith, reached.used, length-first, length-bound s);
         }
 
-    pub reached_next : (r : Measured) (left : List ℕ) → Passed s t m words r left → Reached s lent next r left
-    reached_next r left p =
+    pub reached_next : (r : Measured) → Passed s t m r → Reached s lent next r
+    reached_next r p =
         let tokens = cue_tokens (drop next s) in
         record {
           inside = f.inside;
-          holds = p.holds;
           long = p.long ∙ reached.long;
           count = omega (arith, p.count, reached.count, count-first, ap (λ k. count_from k tokens) p.path);
           used = omega (arith, p.used, reached.used, length-first, ap (λ k. length_from k tokens) p.path);

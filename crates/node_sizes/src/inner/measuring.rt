@@ -1,13 +1,14 @@
 // The first pass over a cue text: how many nodes it has and how long their strings are, or that a time is above its limit. The table of nodes
 // may be too short, so the kinds of the open nodes are kept here, on a stack in words of this pass's own.
-ghost use Rattle.std.specs.Prelude.{◌≡◌, ◌+◌, ◌*◌, ◌≤◌, ◌<◌, length};
+ghost use Rattle.std.specs.Prelude.{◌≡◌, ◌+◌, ◌*◌, ◌≤◌, ◌<◌, ◌∷◌, cond, ltb, length};
+ghost use Rattle.format.specs.Trees.{kind_word};
 ghost use Rattle.format.specs.Limits.{max_text};
 ghost use Rattle.tokenizer.specs.Tags.{token_is, PartsIn};
 ghost use Rattle.nodes.specs.Tokens.{token_classes, token_value};
-ghost use Rattle.stack.specs.Kinds.{kinds, Holds};
-ghost use Rattle.node_laws.specs.Sizes.{top_kind};
+ghost use Rattle.stack.specs.Kinds.{kinds};
+ghost use Rattle.node_laws.specs.Sizes.{top_kind, leaving_kinds};
 ghost use Rattle.node_sizes.specs.Needs.{NeedIs};
-ghost use Rattle.node_sizes.specs.Turns.{opened, Left, Entered, Ready, TurnIs};
+ghost use Rattle.node_sizes.specs.Turns.{opened, Ready, TurnIs};
 
 use format::kinds::NodeKind;
 use format::{OverLimit, TreeSize};
@@ -17,53 +18,47 @@ use stack::inner::kinds::Stack;
 use tokenizer::Token;
 
 // What the tokens passed so far come to: the open nodes, and how many nodes and bytes of strings there are.
-#[derive(Clone, Copy)]
-struct Measured {
-    stack: Stack,
+#[derive(Drop)]
+struct Measured<'a> {
+    stack: Stack<'a>,
     count: usize,
     used: usize,
 }
 
-// The kind of the node that is on top. The words on the stack are below 8, and the top of an empty one is 8.
-fn top_kind(path: Stack, words: &[u64]) -> Option<NodeKind>
-    requires { Holds path words.now }
-    ensures { result ≡ top_kind (opened path words.now) }
+// The kind of the node that is on top.
+fn top_kind(path: &Stack) -> Option<NodeKind>
+    ensures { result ≡ top_kind (opened path.now) }
 {
-    let word = stack::inner::kinds::top(path, words);
-    if 8 <= word {
-        return None;
-    }
+    let word = path.top()?;
     Some(kind_numbered(word))
 }
 
-// The open nodes after a token that names this kind to be left. `</ruby>` inside a ruby text leaves both.
-fn leave(path: Stack, named: Option<NodeKind>, words: &[u64]) -> Stack
-    requires { Holds path words.now }
-    ensures { Left named path words.now result }
+// Takes off the nodes that a token leaves which names this kind. `</ruby>` inside a ruby text leaves both.
+fn leave(path: &mut Stack, named: Option<NodeKind>)
+    ensures is { opened path.new ≡ leaving_kinds named (opened path.old) }
+    ensures long { length path.new.words.now ≡ length path.old.words.now }
 {
-    let Some(kind) = top_kind(path, words) else {
-        return path;
+    let Some(kind) = top_kind(path) else {
+        return;
     };
     if is_kind(named, kind) {
-        return stack::inner::kinds::pop(path, words);
+        path.pop();
+    } else if is_kind(named, NodeKind::Ruby) && is_kind(Some(kind), NodeKind::RubyText) {
+        path.pop();
+        path.pop();
     }
-    if is_kind(named, NodeKind::Ruby) && is_kind(Some(kind), NodeKind::RubyText) {
-        let below = stack::inner::kinds::pop(path, words);
-        return stack::inner::kinds::pop(below, words);
-    }
-    path
 }
 
-// The open nodes after a node of this kind: the kinds whose word is below 8 have children.
-fn enter(path: Stack, kind: NodeKind, words: &mut [u64]) -> Stack
-    requires { Holds path words.old × (length (kinds path words.old) < 21 * length words.old) }
-    ensures { Entered kind path words.old result words.new }
+// Puts a node of this kind on where it has children: the kinds whose word is below 8.
+fn enter(path: &mut Stack, kind: NodeKind)
+    requires { length (kinds path.old) < 21 * length path.old.words.now }
+    ensures is { opened path.new ≡ cond (ltb (kind_word kind) 8) (kind ∷ opened path.old) (opened path.old) }
+    ensures long { length path.new.words.now ≡ length path.old.words.now }
 {
     let word = u64::from(kind);
-    if 8 <= word {
-        return path;
+    if word < 8 {
+        path.push(word);
     }
-    stack::inner::kinds::push(path, word, words)
 }
 
 // The place after the strings of a token's node. They are put into a room of one byte, since only the place is asked for.
@@ -77,23 +72,18 @@ fn after_strings(text: &[u8], token: Token, kind: NodeKind, at: usize) -> usize
 }
 
 // One token more.
-fn turn(text: &[u8], token: Token, m: Measured, words: &mut [u64]) -> Result<Measured, OverLimit>
-    requires { Ready text.now token m words.old }
-    ensures { TurnIs text.now token m words.old result words.new }
+fn turn(text: &[u8], token: Token, m: &mut Measured) -> Result<(), OverLimit>
+    requires { Ready text.now token m.old }
+    ensures { TurnIs text.now token m.old result m.new }
 {
-    let Some(made) = node_of(text, token, top_kind(m.stack, words))? else {
-        let named = left_kind(text, token);
-        return Ok(Measured {
-            stack: leave(m.stack, named, words),
-            ..m
-        });
+    let Some(made) = node_of(text, token, top_kind(&m.stack))? else {
+        leave(&mut m.stack, left_kind(text, token));
+        return Ok(());
     };
-    let used = after_strings(text, token, made.kind, m.used);
-    Ok(Measured {
-        stack: enter(m.stack, made.kind, words),
-        count: m.count + 1,
-        used,
-    })
+    m.used = after_strings(text, token, made.kind, m.used);
+    enter(&mut m.stack, made.kind);
+    m.count += 1;
+    Ok(())
 }
 
 // The needs of a text, with words enough for the open nodes: each takes three bytes of the text.
@@ -101,9 +91,9 @@ fn measure(text: &[u8], words: &mut [u64]) -> Result<TreeSize, OverLimit>
     requires { (length text.now ≤ max_text) × (length text.now ≤ 63 * length words.old) }
     ensures { NeedIs text.now result }
 {
-    let mut at: usize = 0;
+    let mut at = 0;
     let mut m = Measured {
-        stack: stack::inner::kinds::empty(),
+        stack: Stack::empty(words),
         count: 0,
         used: 0,
     };
@@ -114,7 +104,7 @@ fn measure(text: &[u8], words: &mut [u64]) -> Result<TreeSize, OverLimit>
                 used: m.used,
             });
         };
-        m = turn(text, found.token, m, words)?;
+        turn(text, found.token, &mut m)?;
         at = found.next;
     }
 }
