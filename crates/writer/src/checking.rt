@@ -17,21 +17,21 @@ pub(crate) fn check(
 ) -> Result<(), NotWritable>
     ensures { (answer : Answer) → unless result answer ≡ unless_failing (first_in 0 (style_fails text.now) 0 styles.now) (unless_failing (first_in 1 (region_fails text.now) 0 regions.now) (unless_failing (first_in 2 (cue_fails text.now regions.now) 0 cues.now) answer)) }
 {
-    if let Fault::At { index, test } = writable::first_style(text, styles) {
+    if let Some(Fault { index, test }) = writable::first_style(text, styles) {
         return Err(NotWritable {
             list: ListKind::Styles,
             index,
             test,
         });
     }
-    if let Fault::At { index, test } = writable::first_region(text, regions) {
+    if let Some(Fault { index, test }) = writable::first_region(text, regions) {
         return Err(NotWritable {
             list: ListKind::Regions,
             index,
             test,
         });
     }
-    if let Fault::At { index, test } = writable::first_cue(text, regions, cues) {
+    if let Some(Fault { index, test }) = writable::first_cue(text, regions, cues) {
         return Err(NotWritable {
             list: ListKind::Cues,
             index,
