@@ -11,9 +11,6 @@ use lib.Seq.{take_all}
 use borrow.Author.Tests.{lt-ltb}
 use Rattle.format.specs.Limits.{max_file}
 use Rattle.format.specs.Answers.{if_accepted, file_answer}
-use Rattle.format.specs.declared.Replacing.TheVariants as Replacing
-use Rattle.output.specs.Puts.{Puts}
-use Rattle.output.proofs.FileLaws as File
 use Rattle.format.specs.Texts.{is_empty, bytes_at}
 use Rattle.format.specs.Plain.{plain_text}
 use Rattle.format.specs.Rows.{cue_entry, new_cue_entry}
@@ -26,13 +23,13 @@ use Rattle.format.specs.Replacing.{name_lent, region_asked, with_region, cue_ask
 use Rattle.laws.proofs.Tests.{by-test}
 use Rattle.roundtrip.proofs.Shape.{none-fails}
 use Rattle.replaced.proofs.Asked.{names_are, asked-name}
-use Rattle.setting_forms.specs.Settings.{asked, named_region, settings_form}
+use Rattle.setting_forms.specs.Settings.{named_region, settings_form}
 use Rattle.forms.specs.Forms.{timing_form, cue_form}
 use Rattle.blocks.specs.Collecting.{line_ends}
 use Rattle.places.specs.Places.{OwnLines}
 use Rattle.blocks.proofs.LineLaws.{ends_more}
 use Rattle.places.proofs.PlaceLaws.{end_from}
-use Rattle.replace.specs.NewCue.{lent_form, in_place, Outcome}
+use Rattle.replace.specs.NewCue.{asked, lent_form, in_place}
 
 pub front_part : (s : List ℕ) (n : ℕ) → bytes_at s 0 n ≡ take n s
 unfolding bytes_at
@@ -42,21 +39,14 @@ pub back_part : (s : List ℕ) (n : ℕ) → bytes_at s n (length s) ≡ drop n 
 unfolding bytes_at
 back_part s n = take_all (length s - n) (drop n s) (omega (arith, length-drop n s))
 
-pub some_bytes : (s : List ℕ) → ltb 0 (length s) ≡ not (is_empty s)
-unfolding is_empty
-some_bytes [] = refl
-some_bytes (b ∷ s) = lt-ltb 0 (length (b ∷ s)) (omega arith)
-
 -- the new cue's written form, by its words and its region's name
 pub lent_form_lem :
-    (t w words name : List ℕ)
+    (t w words : List ℕ) {name : Option (List ℕ)}
     → cue_entry words ≡ new_cue_entry w
-    → name ≡ name_lent t w
-    → cue_form t (cue_entry words) (asked (ltb 0 (length name)) name) ≡ lent_form t w
+    → name ≡ asked (name_lent t w)
+    → cue_form t (cue_entry words) name ≡ lent_form t w
 unfolding lent_form
-lent_form_lem t w words name e f =
-    ap (λ x. cue_form t x (asked (ltb 0 (length name)) name)) e
-    ∙ rw f (ap (λ a. cue_form t (new_cue_entry w) (asked a (name_lent t w))) (some_bytes (name_lent t w)))
+lent_form_lem t w words e f = rw (e, f) refl
 
 -- it is the form of the cue asked for, where no test fails
 module _ (s t w : List ℕ) (e : new_cue_fails t w (region_names s) ≡ None) where
@@ -77,7 +67,7 @@ module _ (s t w : List ℕ) (e : new_cue_fails t w (region_names s) ≡ None) wh
   is_there_lem =
       (none-fails 1 (new_test1 t w ∷ cue_tests (cue_of_entry t (new_cue_entry w)) ++ new_test6 t w names ∷ []) e).1.1.1.1.1.0
 
-  region_form : named_region (asked (not (is_empty name)) name) ≡ written_region_name (contents (lists s)).regions (region_asked names name)
+  region_form : named_region (asked name) ≡ written_region_name (contents (lists s)).regions (region_asked names name)
   unfolding named_region region_asked written_region_name
   region_form =
       by-test (is_empty name)
@@ -106,22 +96,3 @@ file-is raw s t w number from to first more start end e own passed f m a b =
     let starts : start ≡ raw_start raw first = omega arith in
     let ends : end ≡ raw_end raw (first + more) = b ∙ rw starts (end_from raw first more) in
     rw (starts, ends, number-last, number-first, form_is s t w passed, e) refl
-
--- what was measured decides the answer
-module _ (new out : List ℕ) {o p : List ℕ} {n : ℕ} (f : Puts new 0 o n p) where
-  pub too_long_lem : max_file < n → Outcome new out (file_answer new (length out)) Replacing.FileTooLong out
-  unfolding replacing_is if_accepted
-  too_long_lem h = rw (File.too_long_lem new out f h) (record { answer = refl; holds = refl })
-
-  pub too_short : n ≤ max_file → length out < n → Outcome new out (file_answer new (length out)) (Replacing.OutTooShort n) out
-  unfolding replacing_is if_accepted
-  too_short h l = rw (File.too_short new out f h l) (record { answer = refl; holds = refl })
-
-  pub fits :
-      {q : List ℕ} {m : ℕ}
-      → n ≤ max_file
-      → n ≤ length out
-      → Puts new 0 out m q
-      → Outcome new out (file_answer new (length out)) (Replacing.File m) q
-  unfolding replacing_is if_accepted
-  fits h l g = rw (File.fits new out f h l g) (record { answer = refl; holds = File.holds new out f h l g })

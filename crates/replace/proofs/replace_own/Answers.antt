@@ -3,13 +3,13 @@ use Rattle.format.specs.Replacing.{new_file}
 use Rattle.output.proofs.PutLaws.{puts_as}
 use Rattle.blocks.specs.Collecting.{line_ends}
 use Rattle.replace.specs.NewCue.{in_place}
-use Rattle.replace.proofs.FileLaws.{file-is, too_long_lem, too_short, fits}
+use Rattle.replace.proofs.FileLaws.{file-is}
 use Rattle.replace.proofs.replace_own.Goals as goal
-use Rattle.replace.proofs.replace_own.Goals.{After-put_file-need}
+use Rattle.replace.proofs.replace_own.Goals.{After-raw_end-end}
 
 -- `replace::replace_own` meets its contract.
 is-new :
-    (c : After-put_file-need)
+    (c : After-raw_end-end)
     → let args = c.args in
     let end = c.raw_end-end.result in
     let start = c.raw_start-start.result in
@@ -23,21 +23,8 @@ is-new c =
     (c.line_ends-more.ensures ∙ ap line_ends c.part-2.ensures)
     c.raw_start-start.ensures c.raw_end-end.ensures
 
-pub returns-then-need-gt-MAX_FILE : goal.returns-then-need-gt-MAX_FILE
-returns-then-need-gt-MAX_FILE c =
-    let new = is-new (goal.at.returns-then-need-gt-MAX_FILE c).After-put_file-need in
-    let args = c.args in
-    too_long_lem (new_file args.raw.now args.number args.text.now args.row) args.out.now (puts_as new c.put_file-need.ensures) c.if-need-gt-MAX_FILE.true
-
-pub returns-then-out-need : goal.returns-then-out-need
-returns-then-out-need c =
-    let new = is-new (goal.at.returns-then-out-need c).After-put_file-need in
-    let args = c.args in
-    too_short (new_file args.raw.now args.number args.text.now args.row) args.out.now (puts_as new c.put_file-need.ensures) c.if-need-gt-MAX_FILE.false c.if-out-need.true
-
 pub returns : goal.returns
 returns c =
-    let new = is-new (goal.at.returns c).After-put_file-need in
+    let new = is-new (goal.at.returns c).After-raw_end-end in
     let args = c.args in
-    fits (new_file args.raw.now args.number args.text.now args.row) args.out.now (puts_as new c.put_file-need.ensures) c.if-need-gt-MAX_FILE.false c.if-out-need.false
-    (puts_as new c.put_file.ensures)
+    c.make_file.ensures (new_file args.raw.now args.number args.text.now args.row) (λ a b put. puts_as new put)
