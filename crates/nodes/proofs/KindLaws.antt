@@ -1,6 +1,5 @@
 -- A kind's word names it, and kinds are the same exactly where their words are.
 use mathlib.Core.Path.{◌≡◌, refl, sym, ap, ◌∙◌}
-use mathlib.Core.Bool.{true, false}
 use denote.Enum.Bare.{sameb, true_same, false_same}
 use Rattle.std.proofs.Common.{rules}
 use lib.Dec.{eqb}

@@ -141,6 +141,10 @@ closed_plain x s end n =
     (λ f. rw (drop_of_length-le s {i = end} (ltb-false end (length s) f)) (sym (append-nil x)))
 
 -- the piece of a text at a place
+pub bytes_at-short : (s : List ℕ) (from to : ℕ) → length (bytes_at s from to) ≤ length s
+unfolding bytes_at
+bytes_at-short s from to = omega (arith, length-take (to - from) (drop from s), length-drop from s)
+
 pub part_length : (s : List ℕ) (from to : ℕ) → from ≤ to → to ≤ length s → length (bytes_at s from to) ≡ to - from
 unfolding bytes_at
 part_length s from to h l = omega (arith, length-take (to - from) (drop from s), length-drop from s)

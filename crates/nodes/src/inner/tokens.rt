@@ -7,7 +7,7 @@ ghost use Rattle.format.specs.CueText.{collapsed};
 ghost use Rattle.format.specs.Limits.{max_text};
 ghost use Rattle.format.specs.Trees.{kind_named, is_kind, attached, tag_time, value_for};
 ghost use Rattle.format.specs.declared.kinds.NodeKind.TheVariants as Kind;
-ghost use Rattle.tokenizer.specs.Tags.{token_is, PartsIn};
+ghost use Rattle.tokenizer.specs.Tags.{span_bytes, token_is, PartsIn};
 ghost use Rattle.strings.specs.Stores.{Stores};
 ghost use Rattle.nodes.specs.Tokens.{attached_kind, element_made, stamp_made, made_is, token_classes, token_value, left_kind};
 
@@ -18,12 +18,20 @@ use format::settings::Span;
 use format::times::Stamp;
 use strings::inner::puts::{put_collapsed, put_decoded};
 use tokenizer::Token;
+use values::bytes::part;
 
 // A node of this kind, and a timestamp's milliseconds.
 #[derive(Clone, Copy)]
 pub struct Made {
     pub kind: NodeKind,
     pub time: u64,
+}
+
+// The bytes of a token's part.
+fn bytes_of<'a>(text: &'a [u8], span: Span) -> &'a [u8]
+    ensures { result.now ≡ span_bytes text.now span }
+{
+    part(text, span.from, span.to)
 }
 
 // The kind that a tag's name names.
@@ -44,14 +52,6 @@ fn kind_named(name: &[u8]) -> Option<NodeKind>
     }
 }
 
-// The kind that the part of a text names.
-fn named_at(text: &[u8], from: usize, to: usize) -> Option<NodeKind>
-    requires { (from ≤ to) × (to ≤ length text.now) }
-    ensures { result ≡ kind_named (bytes_at text.now from to) }
-{
-    kind_named(&text[from..to])
-}
-
 // Ruby text opens only directly inside ruby.
 fn attach(current: Option<NodeKind>, named: Option<NodeKind>) -> Option<NodeKind>
     ensures { result ≡ attached_kind current named }
@@ -62,12 +62,11 @@ fn attach(current: Option<NodeKind>, named: Option<NodeKind>) -> Option<NodeKind
     named
 }
 
-// The node of a start tag.
-fn element(text: &[u8], from: usize, to: usize, current: Option<NodeKind>) -> Option<Made>
-    requires { (from ≤ to) × (to ≤ length text.now) }
-    ensures { result ≡ element_made (attached current (bytes_at text.now from to)) }
+// The node of a start tag with this name.
+fn element(name: &[u8], current: Option<NodeKind>) -> Option<Made>
+    ensures { result ≡ element_made (attached current name.now) }
 {
-    let kind = attach(current, named_at(text, from, to))?;
+    let kind = attach(current, kind_named(name))?;
     Some(Made { kind, time: 0 })
 }
 
@@ -85,20 +84,12 @@ fn stamp(s: &[u8]) -> Result<Option<Made>, OverLimit>
     }
 }
 
-fn stamp_at(text: &[u8], from: usize, to: usize) -> Result<Option<Made>, OverLimit>
-    requires { (from ≤ to) × (to ≤ length text.now) }
-    ensures { result ≡ stamp_made (tag_time (bytes_at text.now from to)) }
-{
-    stamp(&text[from..to])
-}
-
 // The node that a token gives below a current node of this kind; refused where a timestamp's hours are above their limit.
 pub fn node_of(
     text: &[u8],
     token: Token,
     current: Option<NodeKind>,
 ) -> Result<Option<Made>, OverLimit>
-    requires { PartsIn text.now 0 (length text.now) token }
     ensures { result ≡ made_is current (token_is text.now token) }
 {
     match token {
@@ -106,13 +97,9 @@ pub fn node_of(
             kind: NodeKind::String,
             time: 0,
         })),
-        Token::Start {
-            name,
-            classes: _,
-            annotation: _,
-        } => Ok(element(text, name.from, name.to, current)),
+        Token::Start { name, .. } => Ok(element(bytes_of(text, name), current)),
         Token::End(_) => Ok(None),
-        Token::Timestamp(value) => stamp_at(text, value.from, value.to),
+        Token::Timestamp(value) => stamp(bytes_of(text, value)),
     }
 }
 
@@ -122,14 +109,8 @@ pub fn put_classes(text: &[u8], token: Token, room: &mut [u8], at: usize) -> usi
     ensures { Stores (token_classes (token_is text.now token)) at room.old result room.new }
 {
     match token {
-        Token::String(_) => at,
-        Token::Start {
-            name: _,
-            classes,
-            annotation: _,
-        } => put_collapsed(text, classes.from, classes.to, true, room, at),
-        Token::End(_) => at,
-        Token::Timestamp(_) => at,
+        Token::Start { classes, .. } => { put_collapsed(bytes_of(text, classes), true, room, at) }
+        Token::String(_) | Token::End(_) | Token::Timestamp(_) => at,
     }
 }
 
@@ -141,53 +122,30 @@ fn has_value(kind: NodeKind) -> bool
     matches!(kind, NodeKind::Voice | NodeKind::Language)
 }
 
-// The annotation, of a voice or a language alone.
-fn put_annotation(
-    text: &[u8],
-    annotation: Span,
-    kind: NodeKind,
-    room: &mut [u8],
-    at: usize,
-) -> usize
-    requires { (annotation.from ≤ annotation.to) × (annotation.to ≤ length text.now) × (length text.now ≤ max_text) × (at ≤ max_text) }
-    ensures { Stores (value_for kind (collapsed white space (bytes_at text.now annotation.from annotation.to))) at room.old result room.new }
-{
-    if !has_value(kind) {
-        return at;
-    }
-    put_collapsed(text, annotation.from, annotation.to, false, room, at)
-}
-
 // The value of a token's node, whose kind is this: text, or the annotation of a voice or a language.
 pub fn put_value(text: &[u8], token: Token, kind: NodeKind, room: &mut [u8], at: usize) -> usize
-    requires { (PartsIn text.now 0 (length text.now) token) × (length text.now ≤ max_text) × (at ≤ max_text) }
+    requires { (length text.now ≤ max_text) × (at ≤ max_text) }
     ensures { Stores (token_value kind (token_is text.now token)) at room.old result room.new }
 {
     match token {
-        Token::String(p) => put_decoded(text, p.from, p.to, room, at),
-        Token::Start {
-            name: _,
-            classes: _,
-            annotation,
-        } => put_annotation(text, annotation, kind, room, at),
-        Token::End(_) => at,
-        Token::Timestamp(_) => at,
+        Token::String(p) => put_decoded(bytes_of(text, p), room, at),
+        Token::Start { annotation, .. } => {
+            if has_value(kind) {
+                put_collapsed(bytes_of(text, annotation), false, room, at)
+            } else {
+                at
+            }
+        }
+        Token::End(_) | Token::Timestamp(_) => at,
     }
 }
 
 // The kind of node that a token leaves.
 pub fn left_kind(text: &[u8], token: Token) -> Option<NodeKind>
-    requires { PartsIn text.now 0 (length text.now) token }
     ensures { result ≡ left_kind (token_is text.now token) }
 {
     match token {
-        Token::String(_) => None,
-        Token::Start {
-            name: _,
-            classes: _,
-            annotation: _,
-        } => None,
-        Token::End(p) => named_at(text, p.from, p.to),
-        Token::Timestamp(_) => None,
+        Token::End(p) => kind_named(bytes_of(text, p)),
+        Token::String(_) | Token::Start { .. } | Token::Timestamp(_) => None,
     }
 }

@@ -2,7 +2,6 @@
 // collapsed. A room that is too short stores what fits; the place that each function hands back goes on all the same.
 ghost use Rattle.std.specs.Prelude.{◌≡◌, [], ◌∷◌, ◌++◌, ◌*◌, ◌<◌, ◌≤◌, MatchOption, length};
 ghost use Rattle.format.specs.Bytes.{semicolon};
-ghost use Rattle.format.specs.Texts.{bytes_at};
 ghost use Rattle.format.specs.Limits.{max_text};
 ghost use Rattle.format.specs.CueText.{escaped, collapsed};
 ghost use Rattle.tokenizer.specs.Decoding.{decoded};
@@ -82,7 +81,7 @@ fn is_escape(s: &[u8], i: usize, end: usize) -> bool
 }
 
 // A text with its escapes decoded, piece by piece: each turn goes on by a piece's length, so a `while` counts the place.
-fn decode(s: &[u8], room: &mut [u8], at: usize) -> usize
+pub fn put_decoded(s: &[u8], room: &mut [u8], at: usize) -> usize
     requires { (length s.now ≤ max_text) × (at ≤ max_text) }
     ensures { Stores (decoded s.now) at room.old result room.new }
 {
@@ -99,14 +98,6 @@ fn decode(s: &[u8], room: &mut [u8], at: usize) -> usize
         }
     }
     n
-}
-
-// A part of a text with its escapes decoded.
-pub fn put_decoded(text: &[u8], from: usize, to: usize, room: &mut [u8], at: usize) -> usize
-    requires { (from ≤ to) × (to ≤ length text.now) × (length text.now ≤ max_text) × (at ≤ max_text) }
-    ensures { Stores (decoded (bytes_at text.now from to)) at room.old result room.new }
-{
-    decode(&text[from..to], room, at)
 }
 
 // Is a byte one of the separators: full stops between classes, else whitespace.
@@ -137,7 +128,7 @@ fn put_word(stops: bool, gap: bool, c: u8, room: &mut [u8], at: usize) -> usize
 }
 
 // A text with its separators collapsed. A gap is a run of separators after a word: its separator is put when another word follows.
-fn collapse(s: &[u8], stops: bool, room: &mut [u8], at: usize) -> usize
+pub fn put_collapsed(s: &[u8], stops: bool, room: &mut [u8], at: usize) -> usize
     requires { (length s.now ≤ max_text) × (at ≤ max_text) }
     ensures { Stores (collapsed (separates stops) (one stops) s.now) at room.old result room.new }
 {
@@ -152,19 +143,4 @@ fn collapse(s: &[u8], stops: bool, room: &mut [u8], at: usize) -> usize
         }
     }
     n
-}
-
-// A part of a text with its separators collapsed.
-pub fn put_collapsed(
-    text: &[u8],
-    from: usize,
-    to: usize,
-    stops: bool,
-    room: &mut [u8],
-    at: usize,
-) -> usize
-    requires { (from ≤ to) × (to ≤ length text.now) × (length text.now ≤ max_text) × (at ≤ max_text) }
-    ensures { Stores (collapsed (separates stops) (one stops) (bytes_at text.now from to)) at room.old result room.new }
-{
-    collapse(&text[from..to], stops, room, at)
 }

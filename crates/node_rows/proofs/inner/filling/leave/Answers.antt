@@ -1,4 +1,4 @@
-use mathlib.Core.Path.{◌≡◌, refl, sym, ap, ◌∙◌}
+use mathlib.Core.Path.{◌≡◌, refl, sym, ◌∙◌}
 use mathlib.Core.Bool.{cond, ◌&&◌}
 use Rattle.std.specs.Prelude.{Some}
 use Rattle.format.specs.Trees.{is_kind}

@@ -1,4 +1,4 @@
-use mathlib.Core.Path.{◌≡◌, sym, ◌∙◌}
+use mathlib.Core.Path.{sym}
 use Rattle.laws.proofs.NotNames.{not_named}
 use Rattle.nodes.proofs.NamedLaws.{none_named}
 use Rattle.nodes.proofs.inner.tokens.kind_named.Goals as goal
