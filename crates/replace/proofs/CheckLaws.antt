@@ -3,7 +3,7 @@ use Prim.Native.Nat.{ℕ, zero, suc, ◌+◌, ◌-◌, ◌≤◌, ◌<◌}
 use mathlib.Core.Path.{◌≡◌, refl, sym, ap, ◌∙◌}
 use mathlib.Core.Bool.{Bool, true, false, cond, not, ◌&&◌}
 use mathlib.Core.List.{List, [], ◌∷◌, ◌++◌}
-use Rattle.std.specs.Prelude.{Option, None, Some, Result, Ok, Err}
+use Rattle.std.specs.Prelude.{Option, None, Some}
 use native.Mathlib.Numerals.{add-one}
 use native.Mathlib.Omega.{arith}
 use lib.Dec.{eqb}
@@ -19,20 +19,20 @@ use Rattle.format.specs.Contents.{cue_of_entry}
 use Rattle.format.specs.Blocks.{has_signature}
 use Rattle.format.specs.Lists.{items, lists, any_over}
 use Rattle.format.specs.Answers.{if_accepted, file_answer}
-use Rattle.format.specs.Replacing.{new_cue_fails, region_names, new_file, no_gap, line_up_to, replace_error, replacing_is, unless_test, replacing_text}
+use Rattle.format.specs.Replacing.{replace_error, new_cue_fails, region_names, new_file, no_gap, line_up_to, replacing_is, unless_test, replacing_text}
+use Rattle.std.specs.Prelude.{Result, Err}
+use Rattle.format.specs.Reading.{text_error}
+use Rattle.format.specs.Writing.{list_number, not_writable}
 use Rattle.format.specs.declared.errors.ListKind.{ListKind}
 use Rattle.format.specs.declared.errors.TextError.{TextError}
-use Rattle.format.specs.declared.errors.OutError.{OutError}
 use Rattle.format.specs.declared.errors.ReplaceError.{ReplaceError}
-use Rattle.format.specs.Reading.{text_error}
-use Rattle.format.specs.Writing.{not_writable, list_number, out_error}
+use Rattle.places.specs.Finding.{SurveyedIs}
 use Rattle.laws.proofs.Tests.{by-test}
 use Rattle.laws.proofs.Lines.{splits}
 use Rattle.replaced.proofs.CueBlocks.{cue-block_at}
 use Rattle.blocks.specs.Collecting.{line_ends}
 use Rattle.places.specs.Places.{OwnLines}
 use Rattle.blocks.proofs.LineLaws.{ends-split, ends_next}
-use Rattle.output.specs.Puts.{made_is, Made}
 use Rattle.replace.specs.NewCue.{gap_answer, tested_answer, counted_answer, Outcome}
 
 -- no line end stands before the first byte
@@ -120,15 +120,6 @@ module _ (raw : List ℕ) (number : ℕ) (t w out : List ℕ) where
   unfolding gap_answer replacing_is replace_error if_accepted
   no_gap_lem e = rw e (record { answer = refl; holds = refl })
 
-  -- the file that was made, or why it was not
-  pub made_out : {n : ℕ} {room : List ℕ} → Made new out (Ok n) room → Outcome new out (file_answer new (length out)) (Ok n) room
-  unfolding replacing_is made_is
-  made_out f = record { answer = f.is; holds = f.holds }
-
-  pub not_made : {why : OutError} {room : List ℕ} → Made new out (Err why) room → Outcome new out (file_answer new (length out)) (Err (ReplaceError.Out why)) room
-  unfolding replacing_is replace_error made_is
-  not_made f = record { answer = f.is; holds = f.holds }
-
   pub gap_passed :
       {r : Result ℕ ReplaceError} {room : List ℕ}
       → no_gap (plain_text raw) number t w ≡ false
@@ -140,10 +131,12 @@ module _ (raw : List ℕ) (number : ℕ) (t w out : List ℕ) where
   abbrev failing : Option ℕ
   failing = new_cue_fails t w (region_names (plain_text raw))
 
-  pub not_writable_lem :
-      {test : ℕ} → failing ≡ Some test → Outcome new out (tested_answer raw number t w (length out)) (Err (ReplaceError.NotWritable (record { list = ListKind.Cues; index = number; test = test }))) out
+  pub test_fails :
+      {test : ℕ}
+      → failing ≡ Some test
+      → Outcome new out (tested_answer raw number t w (length out)) (Err (ReplaceError.NotWritable (record { list = ListKind.Cues; index = number; test = test }))) out
   unfolding tested_answer unless_test replacing_is replace_error not_writable list_number if_accepted
-  not_writable_lem e = rw e (record { answer = refl; holds = refl })
+  test_fails e = rw e (record { answer = refl; holds = refl })
 
   pub writable_passed :
       {r : Result ℕ ReplaceError} {room : List ℕ}
@@ -172,14 +165,10 @@ module _ (raw : List ℕ) (number : ℕ) (t w out : List ℕ) where
 
   -- the file's own refusals, in its plain text s
   module _ (s : List ℕ) (q : s ≡ plain_text raw) where
-    pub no_signature : has_signature s ≡ false → Outcome new out (replacing_text raw number t w (length out)) (Err (ReplaceError.Text TextError.NoSignature)) out
+    pub text_refused : (number₂ : ℕ) (name : List ℕ) (e : TextError) → SurveyedIs s number₂ name (Err e) → Outcome new out (replacing_text raw number t w (length out)) (Err (ReplaceError.Text e)) out
     unfolding replacing_text replacing_is replace_error text_error if_accepted
-    no_signature e = rw (rw q at e) (record { answer = refl; holds = refl })
-
-    pub over_limit :
-        has_signature s ≡ true → any_over (items s) ≡ true → Outcome new out (replacing_text raw number t w (length out)) (Err (ReplaceError.Text TextError.OverLimit)) out
-    unfolding replacing_text replacing_is replace_error text_error if_accepted
-    over_limit e o = rw (rw q at e, rw q at o) (record { answer = refl; holds = refl })
+    text_refused k name TextError.NoSignature h = rw (rw q at h) (record { answer = refl; holds = refl })
+    text_refused k name TextError.OverLimit h = rw (rw q at h.0, rw q at h.1) (record { answer = refl; holds = refl })
 
     pub file_passed :
         {r : Result ℕ ReplaceError} {room : List ℕ}

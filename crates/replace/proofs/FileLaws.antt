@@ -10,7 +10,13 @@ use lib.ListN.{length, take, drop, length-drop}
 use lib.Seq.{take_all}
 use borrow.Author.Tests.{lt-ltb}
 use Rattle.format.specs.Limits.{max_file}
-use Rattle.format.specs.Answers.{if_accepted, file_answer}
+use Rattle.format.specs.Answers.{if_accepted, and_then, file_answer}
+use Rattle.std.specs.Prelude.{Result}
+use Rattle.format.specs.Converting.{convert_error, converting}
+use Rattle.format.specs.declared.errors.ConvertError.{ConvertError}
+use Rattle.format.specs.declared.errors.OutError.{OutError}
+use Rattle.format.specs.declared.errors.ReplaceError.{ReplaceError}
+use Rattle.output.specs.Puts.{made_is, Made}
 use Rattle.format.specs.Texts.{is_empty, bytes_at}
 use Rattle.format.specs.Plain.{plain_text}
 use Rattle.format.specs.Rows.{cue_entry, new_cue_entry}
@@ -19,7 +25,7 @@ use Rattle.format.specs.Lists.{lists}
 use Rattle.format.specs.Contents.{contents, cue_of_entry}
 use Rattle.format.specs.Writable.{cue_tests}
 use Rattle.format.specs.Written.{written_region_name, written_settings, written_timing, cue_lines}
-use Rattle.format.specs.Replacing.{name_lent, region_asked, with_region, cue_asked, new_test1, is_there, new_test6, new_cue_fails, region_names, new_form, new_file, replacing_is, raw_start, raw_end, first_line, last_line, own_start, own_end}
+use Rattle.format.specs.Replacing.{name_lent, region_asked, with_region, cue_asked, new_test1, is_there, new_test6, new_cue_fails, region_names, new_form, new_file, replacing_is, replacing, replaced_room, raw_start, raw_end, first_line, last_line, own_start, own_end}
 use Rattle.laws.proofs.Tests.{by-test}
 use Rattle.roundtrip.proofs.Shape.{none-fails}
 use Rattle.replaced.proofs.Asked.{names_are, asked-name}
@@ -29,7 +35,7 @@ use Rattle.blocks.specs.Collecting.{line_ends}
 use Rattle.places.specs.Places.{OwnLines}
 use Rattle.blocks.proofs.LineLaws.{ends_more}
 use Rattle.places.proofs.PlaceLaws.{end_from}
-use Rattle.replace.specs.NewCue.{asked, lent_form, in_place}
+use Rattle.replace.specs.NewCue.{asked, lent_form, in_place, Outcome}
 
 pub front_part : (s : List ℕ) (n : ℕ) → bytes_at s 0 n ≡ take n s
 unfolding bytes_at
@@ -41,12 +47,13 @@ back_part s n = take_all (length s - n) (drop n s) (omega (arith, length-drop n 
 
 -- the new cue's written form, by its words and its region's name
 pub lent_form_lem :
-    (t w words : List ℕ) {name : Option (List ℕ)}
+    (t w words name : List ℕ) (region : Option (List ℕ))
     → cue_entry words ≡ new_cue_entry w
-    → name ≡ asked (name_lent t w)
-    → cue_form t (cue_entry words) name ≡ lent_form t w
+    → name ≡ name_lent t w
+    → region ≡ asked name
+    → cue_form t (cue_entry words) region ≡ lent_form t w
 unfolding lent_form
-lent_form_lem t w words e f = rw (e, f) refl
+lent_form_lem t w words name region e f g = rw (e, g, f) refl
 
 -- it is the form of the cue asked for, where no test fails
 module _ (s t w : List ℕ) (e : new_cue_fails t w (region_names s) ≡ None) where
@@ -68,7 +75,7 @@ module _ (s t w : List ℕ) (e : new_cue_fails t w (region_names s) ≡ None) wh
       (none-fails 1 (new_test1 t w ∷ cue_tests (cue_of_entry t (new_cue_entry w)) ++ new_test6 t w names ∷ []) e).1.1.1.1.1.0
 
   region_form : named_region (asked name) ≡ written_region_name (contents (lists s)).regions (region_asked names name)
-  unfolding named_region region_asked written_region_name
+  unfolding asked named_region region_asked written_region_name
   region_form =
       by-test (is_empty name)
       (λ y. rw y refl)
@@ -96,3 +103,20 @@ file-is raw s t w number from to first more start end e own passed f m a b =
     let starts : start ≡ raw_start raw first = omega arith in
     let ends : end ≡ raw_end raw (first + more) = b ∙ rw starts (end_from raw first more) in
     rw (starts, ends, number-last, number-first, form_is s t w passed, e) refl
+
+-- what making the file answers
+pub made_so :
+    (new out : List ℕ) (r : Result ℕ ReplaceError) (m : Result ℕ OutError) {room : List ℕ}
+    → replacing_is r ≡ made_is m
+    → Made new out m room
+    → Outcome new out (file_answer new (length out)) r room
+made_so new out r m e f = record { answer = e ∙ f.is; holds = f.holds }
+
+-- where converting refuses, so does replacing, and the output room is as it was
+pub not_converted :
+    (raw : List ℕ) (number : ℕ) (t w out : List ℕ) (scratch : ℕ) (e : ConvertError)
+    → convert_error e ≡ converting raw scratch
+    → (convert_error e ≡ replacing raw number t w scratch (length out)) × (out ≡ replaced_room raw number t w scratch out)
+unfolding convert_error replacing replaced_room and_then if_accepted
+not_converted raw number t w out scratch ConvertError.TooLong h = rw (← h) (refl, refl)
+not_converted raw number t w out scratch (ConvertError.RoomTooShort n) h = rw (← h) (refl, refl)

@@ -1,17 +1,17 @@
 -- The new file as the code puts it together, and what replacing answers check by check.
 use Rattle.std.specs.Prelude.{ℕ, ◌≡◌, cond, not, List, [], ◌∷◌, ◌++◌, ltb, length, take, drop}
-use Rattle.std.specs.Prelude.{Option, None, Some, Result}
 use Rattle.format.specs.Texts.{is_empty}
 use Rattle.format.specs.Plain.{plain_text}
 use Rattle.format.specs.Lists.{lists}
 use Rattle.format.specs.Answers.{Answer, refused, if_accepted, file_answer, placed}
 use Rattle.format.specs.Rows.{new_cue_entry}
 use Rattle.format.specs.Replacing.{name_lent, new_cue_fails, region_names, new_file, no_gap, replacing_is, unless_test}
+use Rattle.std.specs.Prelude.{Option, None, Some, Result}
 use Rattle.format.specs.declared.errors.ReplaceError.{ReplaceError}
 use Rattle.forms.specs.Forms.{cue_form}
 
--- the name of the region that a new cue asks for, if it asks for one
-abbrev pub asked : List ℕ → Option (List ℕ)
+-- the name of the region that a cue asks for; none where it is empty
+unfoldable pub asked : List ℕ → Option (List ℕ)
 asked name = cond (is_empty name) None (Some name)
 
 -- the written form of the new cue

@@ -3,36 +3,31 @@
 #![tactic(auto)]
 
 ghost use Rattle.std.specs.Prelude.{ℕ, ◌-◌, ◌≤◌, ◌<◌, ◌≡◌, false, not, ◌&&◌, [], length, get_or, take};
-ghost use Rattle.std.specs.Prelude.{None, Ok, option_copied};
+ghost use Rattle.std.specs.Prelude.{None, Ok};
+ghost use Rattle.std.specs.Option.{option_copied};
 ghost use Rattle.format.specs.Texts.{is_empty};
 ghost use Rattle.format.specs.Lines.{split};
 ghost use Rattle.format.specs.Plain.{plain_text};
-ghost use Rattle.format.specs.Lists.{lists};
-ghost use Rattle.format.specs.Answers.{file_answer};
 ghost use Rattle.format.specs.Converting.{converted_room};
-ghost use Rattle.format.specs.Replacing.{name_lent, new_cue_fails, region_names, new_file, replacing_is, replacing_text, replacing, replaced_room, Replaced};
+ghost use Rattle.format.specs.Replacing.{new_cue_fails, region_names, new_file, replacing_is, replacing_text, replacing, replaced_room, Replaced};
 ghost use Rattle.output.specs.Puts.{Puts, Made};
 ghost use Rattle.blocks.specs.Collecting.{line_ends};
 ghost use Rattle.places.specs.Places.{OwnLines};
-ghost use Rattle.places.specs.Finding.{FoundIn};
-ghost use Rattle.replace.specs.NewCue.{asked, in_place, gap_answer, counted_answer, Outcome};
+ghost use Rattle.replace.specs.NewCue.{asked, in_place, Outcome};
 
 use format::rows::NewCueRow;
 use format::settings::Span;
 use format::{ListKind, NotWritable, OutError, ReplaceError};
 use output::Output;
-use places::inner::finding::Found;
 use places::inner::{finding, testing};
 use places::lines;
 use values::bytes::part;
 
-// The name of the region that a new cue asks for, if it asks for one.
-fn region_lent<'a>(text: &'a [u8], row: NewCueRow) -> Option<&'a [u8]>
-    ensures { option_copied result ≡ asked (name_lent text.now row) }
+// The name of the region that a cue asks for; none where it is empty.
+fn region_asked<'a>(name: &'a [u8]) -> Option<&'a [u8]>
+    ensures { option_copied result ≡ asked name.now }
 {
-    let place = rows::new_cue_name(row);
-    let name = part(text, place.from, place.to);
-    if name.is_empty() {
+    if name.len() == 0 {
         return None;
     }
     Some(name)
@@ -42,28 +37,24 @@ fn region_lent<'a>(text: &'a [u8], row: NewCueRow) -> Option<&'a [u8]>
 fn put_file(raw: &[u8], start: usize, end: usize, text: &[u8], row: NewCueRow, out: &mut Output)
     ensures { Puts (in_place raw.now start end text.now row) out.old out.new }
 {
+    let place = rows::new_cue_name(row);
+    let name = part(text, place.from, place.to);
     out.bytes(part(raw, 0, start));
-    forms::cue_named(
-        text,
-        rows::inner::cue_of_new(row),
-        region_lent(text, row),
-        out,
-    );
+    forms::cue_named(text, rows::inner::cue_of_new(row), region_asked(name), out);
     out.bytes(part(raw, end, raw.len()));
 }
 
-// The checks 1 (output) and 10, and the new file.
-fn replace_own(
+// The checks 1 (output) and 10, and the new file, in a file whose plain text has the cue's lines in this part.
+fn make_file(
     raw: &[u8],
     s: &[u8],
-    number: usize,
     own: Span,
     text: &[u8],
     row: NewCueRow,
     out: &mut [u8],
 ) -> Result<usize, OutError>
-    requires { (s.now ≡ plain_text raw.now) × (OwnLines s.now number own.from own.to) × (new_cue_fails text.now row (region_names s.now) ≡ None) }
-    ensures { Made (new_file raw.now number text.now row) out.old result out.new }
+    requires { (s.now ≡ plain_text raw.now) × (new_cue_fails text.now row (region_names s.now) ≡ None) }
+    ensures { (number : ℕ) → OwnLines s.now number own.from own.to → Made (new_file raw.now number text.now row) out.old result out.new }
 {
     let first = blocks::line_ends(part(s, 0, own.from));
     let more = blocks::line_ends(part(s, own.from, own.to));
@@ -101,53 +92,6 @@ fn lacks_gap(s: &[u8], place: usize, id: &[u8]) -> bool
     !gap_before(s, place)
 }
 
-// Check 9 and those after it.
-fn replace_found(
-    raw: &[u8],
-    s: &[u8],
-    number: usize,
-    own: Span,
-    text: &[u8],
-    row: NewCueRow,
-    out: &mut [u8],
-) -> Result<usize, ReplaceError>
-    requires { (s.now ≡ plain_text raw.now) × (OwnLines s.now number own.from own.to) × (number < length (lists s.now).cues) × (new_cue_fails text.now row (region_names s.now) ≡ None) }
-    ensures { Outcome (new_file raw.now number text.now row) out.old (gap_answer raw.now number text.now row (length out.old)) result out.new }
-{
-    let place = rows::new_cue_id(row);
-    let id = part(text, place.from, place.to);
-    if lacks_gap(s, own.from, id) {
-        return Err(ReplaceError::NoGap);
-    }
-    Ok(replace_own(raw, s, number, own, text, row, out)?)
-}
-
-// Checks 7 and 8 and those after them, in a file that has this.
-fn replace_counted(
-    raw: &[u8],
-    s: &[u8],
-    number: usize,
-    found: Found,
-    text: &[u8],
-    row: NewCueRow,
-    out: &mut [u8],
-) -> Result<usize, ReplaceError>
-    requires { (s.now ≡ plain_text raw.now) × (FoundIn s.now number (name_lent text.now row) found) }
-    ensures { Outcome (new_file raw.now number text.now row) out.old (counted_answer raw.now number text.now row (length out.old)) result out.new }
-{
-    let Some(own) = found.own else {
-        return Err(ReplaceError::NoSuchCue(found.cues));
-    };
-    if let Some(test) = testing::new_cue_test(text, row, found.named) {
-        return Err(ReplaceError::NotWritable(NotWritable {
-            list: ListKind::Cues,
-            index: number,
-            test,
-        }));
-    }
-    replace_found(raw, s, number, own, text, row, out)
-}
-
 // The checks after converting, in the file's plain text.
 fn replace_in(
     raw: &[u8],
@@ -162,7 +106,21 @@ fn replace_in(
 {
     let place = rows::new_cue_name(row);
     let found = finding::survey(s, number, part(text, place.from, place.to))?;
-    replace_counted(raw, s, number, found, text, row, out)
+    let Some(own) = found.own else {
+        return Err(ReplaceError::NoSuchCue(found.cues));
+    };
+    if let Some(test) = testing::new_cue_test(text, row, found.named) {
+        return Err(ReplaceError::NotWritable(NotWritable {
+            list: ListKind::Cues,
+            index: number,
+            test,
+        }));
+    }
+    let place = rows::new_cue_id(row);
+    if lacks_gap(s, own.from, part(text, place.from, place.to)) {
+        return Err(ReplaceError::NoGap);
+    }
+    Ok(make_file(raw, s, own, text, row, out)?)
 }
 
 // Replaces the cue with this number by the new cue, a row over a text lent with it. The new file stands at the start of the output room;
