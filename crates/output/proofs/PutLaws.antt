@@ -127,6 +127,13 @@ pub sets_outside : (l : List ℕ) (i : ℕ) (x : List ℕ) → length l ≤ i �
 sets_outside l i [] h = refl
 sets_outside l i (b ∷ x) h = ap (λ r. sets r (suc i) x) (set_out l i b h) ∙ sets_outside l (suc i) x (omega arith)
 
+-- a text put from the start stands there
+pub filled : (x room : List ℕ) → length x ≤ max_file → length x ≤ length room → room_with 0 x room ≡ placed x room
+unfolding placed
+filled x room h r =
+    let e : 0 + length x ≡ length x = omega arith in
+    room_within 0 x room (omega arith) ∙ sets-eq x room 0 (omega arith) ∙ ap (λ k. x ++ drop k room) e
+
 -- what was put from the start: its length is told exactly unless it is above the greatest length of a file, and then that is told
 module _ {x : List ℕ} {out end : Output} (f : Puts x out end) (start : out.at ≡ 0) where
   from : end.at ≡ place_after 0 x
@@ -140,8 +147,4 @@ module _ {x : List ℕ} {out end : Output} (f : Puts x out end) (start : out.at 
 
   -- and the room holds it at its start
   pub stands : length x ≤ max_file → length x ≤ length out.room.now → end.room.now ≡ placed x out.room.now
-  unfolding placed
-  stands h r =
-      let room = out.room.now in
-      let e : 0 + length x ≡ length x = omega arith in
-      f.holds ∙ ap (λ k. room_with k x room) start ∙ room_within 0 x room (omega arith) ∙ sets-eq x room 0 (omega arith) ∙ ap (λ k. x ++ drop k room) e
+  stands h r = f.holds ∙ ap (λ k. room_with k x out.room.now) start ∙ filled x out.room.now h r
