@@ -28,7 +28,7 @@ impl<'a> Tokenizer<'a> {
         self.text.len() <= self.at
     }
 
-    // The token that begins at the place. The reader moves on past it.
+    // The token that begins at the place. The reader moves on past it. No `Iterator`, for docs/PROMISES.md names this method's three promises.
     pub fn next(&mut self) -> Option<Stepped>
         ensures is { result ≡ step_is self.old.text.now self.old.at }
         ensures at { StepAt self.old.text.now self.old.at result }
