@@ -1,6 +1,6 @@
 -- The contents of lists: what document 01 compares, "by contents, not by places in the text".
 use Rattle.std.specs.Prelude.{ℕ, List, map}
-use Rattle.std.specs.Prelude.{Option, None, Some}
+use Rattle.std.specs.Prelude.{Option}
 use Rattle.format.specs.Texts.{bytes_at}
 use Rattle.format.specs.RegionSettings.{RegionValues}
 use Rattle.format.specs.Lists.{Cue, Lists, lists}

@@ -1,6 +1,6 @@
 -- Converting a raw file to plain text, and the test that a text is plain: document 01's numbers and values, and the lent room.
 use Rattle.std.specs.Prelude.{ℕ, cond, List, [], ◌∷◌, ltb, length}
-use Rattle.std.specs.Prelude.{Option, None, Some, Result, Ok, Err}
+use Rattle.std.specs.Prelude.{Option, None, Some, Result}
 use Rattle.format.specs.Limits.{max_file}
 use Rattle.format.specs.Plain.{plain_text, first_not_plain}
 use Rattle.format.specs.Answers.{Answer, accepted, refused, if_accepted, placed, answered, length_told}

@@ -1,6 +1,6 @@
 -- Handing back a cue's identifier or its text: document 01's numbers and values, and the part itself.
 use Rattle.std.specs.Prelude.{ℕ, cond, List, [], ◌∷◌, ltb, length, get_or}
-use Rattle.std.specs.Prelude.{Result, Ok, Err}
+use Rattle.std.specs.Prelude.{Result}
 use Rattle.format.specs.Contents.{cue_of_row}
 use Rattle.format.specs.Writable.{cue_test1}
 use Rattle.format.specs.Answers.{Answer, accepted, refused, if_accepted, answered}

@@ -1,6 +1,6 @@
 -- Reading a plain text into the lent tables: document 01's numbers and values, and what the tables hold after it.
 use Rattle.std.specs.Prelude.{ℕ, ◌≡◌, true, cond, not, ◌||◌, List, [], ◌∷◌, ◌++◌, ltb, length}
-use Rattle.std.specs.Prelude.{Result, Ok, Err}
+use Rattle.std.specs.Prelude.{Result}
 use Rattle.format.specs.Limits.{max_text}
 use Rattle.format.specs.Plain.{plain_text, first_not_plain}
 use Rattle.format.specs.Blocks.{has_signature}

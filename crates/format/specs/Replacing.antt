@@ -1,7 +1,7 @@
 -- Document 01, "Replacing one cue": raw lines, a cue's own bytes, the cue asked for, the new file, what replacing answers, and demand 3.
 use Rattle.std.specs.Prelude.{ℕ, ◌+◌, ◌-◌, ◌≤◌, ◌≡◌, Bool, true, false, cond, not, ◌&&◌, ◌||◌, List, [], ◌∷◌, ◌++◌, eqb, ltb, length, get_or, set, take, drop}
 use Rattle.std.specs.Prelude.{Option, None, Some}
-use Rattle.std.specs.Prelude.{Result, Ok, Err}
+use Rattle.std.specs.Prelude.{Result}
 use Rattle.format.specs.Bytes.{lf, cr}
 use Rattle.format.specs.Texts.{starts_with, is_empty, bytes_at}
 use Rattle.format.specs.Plain.{plain_text}
@@ -12,7 +12,7 @@ use Rattle.format.specs.Lists.{items, lists, any_over}
 use Rattle.format.specs.LineNumbers.{cue_blocks, first_number, line_spans, LinesMoved}
 use Rattle.format.specs.Rows.{ids, new_cue_entry, new_cue_name}
 use Rattle.format.specs.Contents.{CueContents, Contents, contents, cue_of_entry}
-use Rattle.format.specs.Answers.{Answer, accepted, refused, if_accepted, and_then, file_answer, placed, answered, length_told}
+use Rattle.format.specs.Answers.{Answer, refused, if_accepted, and_then, file_answer, placed, answered, length_told}
 use Rattle.format.specs.Converting.{convert_error, converting}
 use Rattle.format.specs.Reading.{text_error, ReadsAgain}
 use Rattle.format.specs.Writing.{not_writable, out_error}

@@ -1,12 +1,12 @@
 -- Rewriting a raw file: "It converts, reads, and prints the written form, or only … the library's first refusal".
-use Rattle.std.specs.Prelude.{ℕ, List, [], ◌∷◌, length}
-use Rattle.std.specs.Prelude.{Result, Ok, Err}
+use Rattle.std.specs.Prelude.{ℕ, List, length}
+use Rattle.std.specs.Prelude.{Result}
 use Rattle.format.specs.Plain.{plain_text}
 use Rattle.format.specs.Lists.{lists}
 use Rattle.format.specs.Contents.{contents}
 use Rattle.format.specs.Written.{written}
 use Rattle.format.specs.Rows.{region_rows, style_rows, stored_cues}
-use Rattle.format.specs.Answers.{Answer, accepted, refused, if_accepted, and_then, placed, answered, length_told}
+use Rattle.format.specs.Answers.{Answer, if_accepted, and_then, placed, answered, length_told}
 use Rattle.format.specs.Reading.{read_file_error, reading_raw}
 use Rattle.format.specs.Writing.{write_error, writing}
 use Rattle.format.specs.declared.errors.RewriteError.{RewriteError}

@@ -7,6 +7,8 @@ use Rattle.format.specs.CueSettings.{span_is}
 use Rattle.format.specs.RegionSettings.{RegionValues, region_is, last_named}
 use Rattle.format.specs.Lists.{Cue, lists}
 use Rattle.format.specs.LineNumbers.{line_spans}
+use Rattle.std.specs.Prelude.{Result, Ok, Err}
+use Rattle.format.specs.declared.codes.Unnamed.{Unnamed}
 use Rattle.format.specs.declared.settings.Span.{Span}
 use Rattle.format.specs.declared.settings.Direction.{Direction}
 use Rattle.format.specs.declared.settings.Line.{Line}
@@ -171,6 +173,10 @@ region_index_of n = cond (eqb n 0) None (Some (n - 1))
 
 abbrev pub scroll_of : ℕ → Scroll
 scroll_of n = cond (eqb n 0) Scroll.None Scroll.Up
+
+-- the choice that a word names, of so many; none where it names none
+abbrev pub named : {A : Type 0} → ℕ → (ℕ → A) → ℕ → Result A Unnamed
+named count of n = cond (ltb n count) (Ok (of n)) (Err (record {}))
 
 -- what a cue's row says, but that its region is this one
 abbrev pub cue_entry_with : Option ℕ → List ℕ → CueEntry

@@ -1,7 +1,7 @@
 -- A cue text's nodes: source document 000, section 6.4, "WebVTT cue text parsing rules", as document 01's flat list in order of appearance;
 -- how their strings stand in the lent room and their rows in the lent table, and what such a row says; and what reading a cue text answers.
 use Rattle.std.specs.Prelude.{ℕ, zero, suc, ◌+◌, ◌≤◌, ◌≡◌, Bool, true, false, cond, not, ◌&&◌, ◌||◌, List, [], ◌∷◌, ◌++◌, map, eqb, ltb, length, drop}
-use Rattle.std.specs.Prelude.{Option, None, Some, Result, Ok, Err}
+use Rattle.std.specs.Prelude.{Option, None, Some, Result}
 use Rattle.format.specs.Bytes.{ascii, full_stop}
 use Rattle.format.specs.Limits.{max_text}
 use Rattle.format.specs.Texts.{same, is_empty, bytes_at}

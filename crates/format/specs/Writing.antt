@@ -1,11 +1,11 @@
 -- Writing lists to a file: document 01's numbers and values, and what the output room holds after it.
 use Rattle.std.specs.Prelude.{ℕ, ◌+◌, ◌≡◌, List, [], ◌∷◌, length}
 use Rattle.std.specs.Prelude.{Option, None, Some}
-use Rattle.std.specs.Prelude.{Result, Ok, Err}
+use Rattle.std.specs.Prelude.{Result}
 use Rattle.format.specs.Plain.{plain_text}
 use Rattle.format.specs.Lists.{lists}
 use Rattle.format.specs.Reading.{ReadsAgain}
-use Rattle.format.specs.Answers.{Answer, accepted, refused, if_accepted, file_answer, placed, answered, length_told}
+use Rattle.format.specs.Answers.{Answer, refused, if_accepted, file_answer, placed, answered, length_told}
 use Rattle.format.specs.Writable.{cue_fails, region_fails, style_fails}
 use Rattle.format.specs.Contents.{Contents, contents, contents_of_rows, stored_contents}
 use Rattle.format.specs.Written.{written}

@@ -2,6 +2,7 @@
 // The definitions themselves are in specs/; there is no algorithm here.
 #![tactic(auto)]
 
+pub mod codes;
 pub mod errors;
 pub mod kinds;
 pub mod regions;
