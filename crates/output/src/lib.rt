@@ -48,8 +48,13 @@ pub fn store_text(s: &[u8], room: &mut [u8], at: usize)
     if room.len() <= at {
         return;
     }
-    let fits = s.len().min(room.len() - at);
-    room[at..at + fits].copy_from_slice(&s[..fits]);
+    let fits = room.len() - at;
+    // A text that fits is copied by its own length: that of a literal is known, so the bytes are stored with no call.
+    if s.len() <= fits {
+        room[at..at + s.len()].copy_from_slice(s);
+        return;
+    }
+    room[at..].copy_from_slice(&s[..fits]);
 }
 
 // The place after so many bytes more.

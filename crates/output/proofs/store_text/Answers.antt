@@ -25,13 +25,21 @@ mid-sets x l at to e h =
 pub returns-then-room-at : goal.returns-then-room-at
 returns-then-room-at c = let args = c.args in sym (sets_outside args.room.now args.at args.s.now (omega arith))
 
+pub returns-then-s-fits : goal.returns-then-s-fits
+returns-then-s-fits c =
+    let args = c.args in
+    let s = args.s.now in
+    let room = args.room.now in
+    let to = args.at + length s in
+    ap (put_mid args.at (to - args.at) room) c.copy_from_slice.ensures.after ∙ mid-sets s room args.at to refl (omega arith)
+
 pub returns : goal.returns
 returns c =
     let args = c.args in
     let s = args.s.now in
     let room = args.room.now in
-    let fits = c.min-fits.result in
+    let fits = length room - args.at in
     let part : length (take fits s) ≡ fits = length-take-le fits s (omega arith) in
-    ap (put_mid args.at (args.at + fits - args.at) room) c.copy_from_slice.ensures.after
-    ∙ mid-sets (take fits s) room args.at (args.at + fits) (omega arith) (omega arith)
-    ∙ sets-fits fits s room args.at c.min-fits.ensures
+    ap (put_mid args.at fits room) c.copy_from_slice-2.ensures.after
+    ∙ mid-sets (take fits s) room args.at (length room) (omega arith) (omega arith)
+    ∙ sets-fits fits s room args.at (omega arith)
