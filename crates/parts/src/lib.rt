@@ -58,18 +58,25 @@ pub fn ask(text: &[u8], cues: &[CueRow], number: usize) -> Result<(), PartError>
     Ok(())
 }
 
-// Where a cue's text stands, or its identifier.
-fn place_of(row: CueRow, text: bool) -> Span
-    ensures { result ≡ place_of row text }
+// Which part of a cue is asked for.
+#[derive(Clone, Copy)]
+enum Part {
+    Identifier,
+    Text,
+}
+
+// Where that part of a cue stands.
+fn place_of(row: CueRow, wanted: Part) -> Span
+    ensures { result ≡ place_of row wanted }
 {
-    if text {
-        return rows::cues::text(row);
+    match wanted {
+        Part::Identifier => rows::cues::id(row),
+        Part::Text => rows::cues::text(row),
     }
-    rows::cues::id(row)
 }
 
 // The text or the identifier of the cue with this number; empty where the call is refused.
-fn hand_back<'a>(text: &'a [u8], cues: &[CueRow], number: usize, wanted: bool) -> &'a [u8]
+fn hand_back<'a>(text: &'a [u8], cues: &[CueRow], number: usize, wanted: Part) -> &'a [u8]
     ensures { result.now ≡ handed_back text.now cues.now number wanted }
 {
     if cues.len() <= number {
@@ -89,12 +96,12 @@ fn hand_back<'a>(text: &'a [u8], cues: &[CueRow], number: usize, wanted: bool) -
 pub fn identifier_of<'a>(text: &'a [u8], cues: &[CueRow], number: usize) -> &'a [u8]
     ensures { result.now ≡ identifier_of text.now cues.now number }
 {
-    hand_back(text, cues, number, false)
+    hand_back(text, cues, number, Part::Identifier)
 }
 
 // The text of the cue with this number; empty where the call is refused.
 pub fn text_of<'a>(text: &'a [u8], cues: &[CueRow], number: usize) -> &'a [u8]
     ensures { result.now ≡ text_of text.now cues.now number }
 {
-    hand_back(text, cues, number, true)
+    hand_back(text, cues, number, Part::Text)
 }
