@@ -22,7 +22,7 @@ fn digit(c: u8) -> u8
 fn decode(line: &[u8], raw: &mut [u8]) -> usize
     ensures { result ≤ length raw.new }
 {
-    let count = values::least(line.len() / 2, raw.len());
+    let count = raw.len().min(line.len() / 2);
     for n in 0..count {
         raw[n] = digit(line[2 * n]) * 16 + digit(line[2 * n + 1]);
     }
