@@ -1,12 +1,18 @@
 -- A row that has the words of another before its region, and zeros after them.
 use Prim.Native.Nat.{ℕ, ◌-◌, ◌≤◌, ◌<◌}
-use mathlib.Core.Path.{◌≡◌, ◌∙◌}
+use mathlib.Core.Path.{refl, ◌≡◌, ◌∙◌}
+use mathlib.Core.Bool.{Bool, false, ◌&&◌}
 use mathlib.Core.List.{List, [], ◌∷◌, ◌++◌}
 use native.Mathlib.Omega.{arith}
 use lib.ListN.{length, take, get_or-append}
 use lib.Seq.{length-take-le}
 use Rattle.std.proofs.lemmas.List.{get_or-take, get_or-append_right}
+use Rattle.laws.proofs.Tests.{and-false}
 use Rattle.format.specs.Rows.{word, cue_entry, cue_span, new_cue_entry, cue_codes_named}
+
+-- no test passes beside one that fails
+pub and_none : (t : Bool) → t && false ≡ false
+and_none t = and-false t false refl
 
 module _ (row : List ℕ) (h : 16 ≤ length row) where
   abbrev zeros : List ℕ
