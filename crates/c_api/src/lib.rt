@@ -194,10 +194,9 @@ fn lent_row(row: &[u64]) -> NewCueRow
     if row.len() != NEW_CUE_WORDS {
         return [u64::MAX; NEW_CUE_WORDS];
     }
-    [
-        row[0], row[1], row[2], row[3], row[4], row[5], row[6], row[7], row[8], row[9], row[10],
-        row[11], row[12], row[13], row[14], row[15], row[16], row[17], row[18], row[19],
-    ]
+    let mut lent = [0; NEW_CUE_WORDS];
+    lent.copy_from_slice(row);
+    lent
 }
 
 // The raw file with one cue replaced goes to `out`, the old file's plain text to `scratch`. The new cue is a row of 20 words over a text; another
@@ -226,10 +225,7 @@ pub extern "C" fn spatz_replace(
 fn row_at(cues: &[CueRow], number: usize) -> CueRow
     ensures { cue_entry result ≡ entry_at cues.now number }
 {
-    if number < cues.len() {
-        return cues[number];
-    }
-    [0; CUE_WORDS]
+    cues.get(number).copied().unwrap_or([0; CUE_WORDS])
 }
 
 // What asking for a part answers, the part standing at this place.

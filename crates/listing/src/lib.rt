@@ -27,8 +27,9 @@ pub mod trees;
 
 // The line of a refusal.
 pub fn refuse<W: Write, E: Told>(out: &mut W, error: E) -> io::Result<()> {
+    let number = answers::number(error);
     printing::print(out, b"refused")?;
-    printing::number(out, answers::number(error))?;
+    printing::number(out, number)?;
     printing::print(out, b"\n")
 }
 
