@@ -150,10 +150,18 @@ pub line_after :
     (s : List ℕ) (at : ℕ) (b : Block) (n : ℕ)
     → NextAt s at b
     → n ≡ suc (line_ends (take at s))
+    → is_end b.stop.why ≡ false
+    → n + (b.from - at) + b.stop.lines ≡ suc (line_ends (take b.stop.at s))
+line_after s at b n next e k = omega (arith, next.skipped, next.empties, next.block.numbers k)
+
+-- as a walk asks it: a place of the text is left
+pub line_left :
+    (s : List ℕ) (at : ℕ) (b : Block) (n : ℕ)
+    → NextAt s at b
+    → n ≡ suc (line_ends (take at s))
     → b.stop.at < length s
     → n + (b.from - at) + b.stop.lines ≡ suc (line_ends (take b.stop.at s))
-line_after s at b n next e l =
-    omega (arith, next.skipped, next.empties, next.block.numbers (not_end s b.stop.why b.stop.at next.stopped l))
+line_left s at b n next e l = line_after s at b n next e (not_end s b.stop.why b.stop.at next.stopped l)
 
 -- a block has no more lines than the text has bytes, and one
 pub few_lines : (s : List ℕ) (b : Block) → BlockAt s b → b.stop.lines ≤ length s + 1

@@ -9,7 +9,7 @@ use Rattle.format.specs.Lists.{Item}
 use Rattle.blocks.specs.Collecting.{line_ends}
 use Rattle.blocks.specs.Items.{meaning_at, NextAt, item_is}
 use Rattle.blocks.proofs.LineLaws.{ends_few}
-use Rattle.blocks.proofs.WalkLaws.{fresh, next-none, next-found, lines-found, line_after, few_lines, moves, places_in}
+use Rattle.blocks.proofs.WalkLaws.{fresh, next-none, next-found, lines-found, line_left, few_lines, moves, places_in}
 use Rattle.lookup.proofs.KnownLaws.{right_none}
 use Rattle.reader.specs.Counting.{with_item}
 use Rattle.reader.specs.Filling.{cues_with, regions_with, styles_with}
@@ -117,5 +117,5 @@ loop-block-preserved c =
           (lines-found a.text.now c.loop-block.at c.in-Some.block c.loop-block.line next number);
       known_len = c.put-kind.auto.known ∙ c.loop-block.invariant.known_len;
       right = rw c.put-kind.ensures.regions at c.put-kind.ensures.known;
-      numbered = line_after a.text.now c.loop-block.at c.in-Some.block c.loop-block.line next number;
+      numbered = line_left a.text.now c.loop-block.at c.in-Some.block c.loop-block.line next number;
     })
