@@ -1,6 +1,7 @@
 // A line read by its first letter, and printed with what was read: T a timestamp, G what stands in a timestamp tag, P a percentage, N a line
 // number, C a count of lines, S cue settings, R region settings, L a timing line. Numbers are in milliseconds and millionths; after a time stands
 // where it ends, and where a time or a timing line fails, the number of the step and the place.
+use answers::Told;
 use format::regions::Region;
 use format::rows::*;
 use format::settings::{Settings, Span};
@@ -10,46 +11,37 @@ use std::io;
 use std::io::Write;
 use values::numbers::NumberError;
 
-// Codes of what was found in a text: no number, one above its limit, a number from 0 on, one below 0.
-const FAILS: u64 = 0;
-
-const OVER: u64 = 1;
-
-const FOUND: u64 = 2;
-
-const BELOW: u64 = 3;
-
-fn print_found<W: Write>(out: &mut W, code: u64, n: u64) -> io::Result<()> {
-    printing::word(out, &[b"fails", b"over", b"", b"-"], code)?;
-    if FOUND <= code {
-        return printing::digits(out, n);
+// What is printed where there is no number, and where one is above its limit.
+fn print_error<W: Write>(out: &mut W, why: NumberError) -> io::Result<()> {
+    match why {
+        NumberError::Bad => printing::print(out, b"fails"),
+        NumberError::Over => printing::print(out, b"over"),
     }
-    Ok(())
 }
 
 fn print_percentage<W: Write>(out: &mut W, text: &[u8]) -> io::Result<()> {
     match values::numbers::read_percentage(text) {
-        Some(n) => print_found(out, FOUND, n),
-        None => print_found(out, FAILS, 0),
+        Some(n) => printing::digits(out, n),
+        None => print_error(out, NumberError::Bad),
     }
 }
 
 fn print_line_number<W: Write>(out: &mut W, text: &[u8]) -> io::Result<()> {
     match values::numbers::read_line_number(text) {
         Ok(n) => {
-            let code = if n.negative { BELOW } else { FOUND };
-            print_found(out, code, n.millionths)
+            if n.negative {
+                printing::print(out, b"-")?;
+            }
+            printing::digits(out, n.millionths)
         }
-        Err(NumberError::Bad) => print_found(out, FAILS, 0),
-        Err(NumberError::Over) => print_found(out, OVER, 0),
+        Err(why) => print_error(out, why),
     }
 }
 
 fn print_line_count<W: Write>(out: &mut W, text: &[u8]) -> io::Result<()> {
     match values::numbers::read_line_count(text) {
-        Ok(n) => print_found(out, FOUND, n),
-        Err(NumberError::Bad) => print_found(out, FAILS, 0),
-        Err(NumberError::Over) => print_found(out, OVER, 0),
+        Ok(n) => printing::digits(out, n),
+        Err(why) => print_error(out, why),
     }
 }
 
@@ -63,7 +55,7 @@ fn print_failed<W: Write>(out: &mut W, told: [u64; 8]) -> io::Result<bool> {
     if told[0] == 0 {
         return Ok(false);
     }
-    print_found(out, FAILS, 0)?;
+    print_error(out, NumberError::Bad)?;
     print_labelled(out, b" ", told[0])?;
     print_labelled(out, b" ", told[1])?;
     Ok(true)
@@ -71,8 +63,8 @@ fn print_failed<W: Write>(out: &mut W, told: [u64; 8]) -> io::Result<bool> {
 
 fn print_time<W: Write>(out: &mut W, read: Stamp) -> io::Result<()> {
     let mut told = [0u64; 8];
-    if answers::time(read, &mut told) == 5 {
-        return print_found(out, OVER, 0);
+    if read.tell(&mut told) == 5 {
+        return print_error(out, NumberError::Over);
     }
     if print_failed(out, told)? {
         return Ok(());
@@ -205,8 +197,8 @@ fn print_timing<W: Write>(out: &mut W, text: &[u8], timing: Timing) -> io::Resul
 fn print_timing_line<W: Write>(out: &mut W, text: &[u8]) -> io::Result<()> {
     let read = timing::line_of(text, 0, text.len());
     let mut told = [0u64; 8];
-    if answers::timing_line(read, &mut told) == 5 {
-        return print_found(out, OVER, 0);
+    if read.tell(&mut told) == 5 {
+        return print_error(out, NumberError::Over);
     }
     if print_failed(out, told)? {
         return Ok(());
@@ -220,7 +212,7 @@ fn print_timing_line<W: Write>(out: &mut W, text: &[u8]) -> io::Result<()> {
 fn print_cue_settings<W: Write>(out: &mut W, text: &[u8]) -> io::Result<()> {
     let taken = cue_settings::all_settings(text, 0, text.len());
     if taken.over {
-        return print_found(out, OVER, 0);
+        return print_error(out, NumberError::Over);
     }
     let settings = taken.settings;
     let region = taken.region;
@@ -230,7 +222,7 @@ fn print_cue_settings<W: Write>(out: &mut W, text: &[u8]) -> io::Result<()> {
 fn print_region_settings<W: Write>(out: &mut W, text: &[u8]) -> io::Result<()> {
     let taken = regions::all_settings(text, 0, text.len());
     if taken.over {
-        return print_found(out, OVER, 0);
+        return print_error(out, NumberError::Over);
     }
     let region = taken.region;
     print_region(out, text, region)
