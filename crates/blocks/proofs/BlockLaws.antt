@@ -3,7 +3,7 @@ use Prim.Native.Nat.{ℕ, zero, suc, ◌+◌, ◌-◌, ◌≤◌, ◌<◌}
 use mathlib.Core.Path.{◌≡◌, refl, sym, ap, ◌∙◌}
 use mathlib.Core.Bool.{Bool, true, false, cond, not, ◌&&◌, ◌||◌, true≢false}
 use mathlib.Core.List.{List, [], ◌∷◌, ◌++◌, append-nil, append_assoc}
-use mathlib.Core.Option.{Option, none, some}
+use Rattle.std.specs.Prelude.{Option, None, Some}
 use native.Mathlib.Omega.{arith}
 use lib.Dec.{eqb, ltb}
 use lib.ListN.{length, get_or, take, drop, length-drop, drop_of_length-le}
@@ -246,16 +246,16 @@ unfolding after_line_ends bytes_of joined unbroken
 took_stop s e h l ms q p i c y =
     let st = collect_stop h e l ms y in
     let at : (collect_from h e (l ∷ ms)).at ≡ e + 1 = st.0 ∙ p in
-    let none = lines-stop h.left l ms y in
+    let None = lines-stop h.left l ms y in
     record {
-      goes = rw (none.1, at, q);
+      goes = rw (None.1, at, q);
       upto = omega (arith, at, st.1);
       within = omega (arith, at);
       not-before = omega (arith, st.1);
-      bytes = rw (none.0, st.1, slice-none s e);
-      whole = rw none.0;
-      first = rw (none.0, st.1, eq-eqb e e refl);
-      many = rw (none.0, st.3);
+      bytes = rw (None.0, st.1, slice-none s e);
+      whole = rw None.0;
+      first = rw (None.0, st.1, eq-eqb e e refl);
+      many = rw (None.0, st.3);
       numbers = λ k. rw (at, st.3) (omega (arith, ends_next s e i true (eq-eqb (get_or s e 0) lf c)));
     }
 
@@ -339,8 +339,8 @@ head_stays h e (l ∷ ls) k =
 
 cue_with_lem : (id : Part) (ls : List Line) (t : Option Timing) → cue_of id ls t ≡ cue_with id (joined ls) t
 unfolding cue_of
-cue_with_lem id ls none = refl
-cue_with_lem id ls (some t) = refl
+cue_with_lem id ls None = refl
+cue_with_lem id ls (Some t) = refl
 
 -- what a block means by its first lines
 meaning-first :
@@ -386,8 +386,8 @@ module _ (s : List ℕ) (from : ℕ) (i : from < length s) (b : in_line (get_or 
   inside₁ : from ≤ length s
   inside₁ = omega arith
 
-  some₁ : 0 < length x₁
-  some₁ = omega (arith, ap length (run-next in_line s from i b))
+  Some₁ : 0 < length x₁
+  Some₁ = omega (arith, ap length (run-next in_line s from i b))
 
   lf₁ : e₁ < length s → get_or s e₁ 0 ≡ lf
   lf₁ = line_lf s from inside₁
@@ -409,8 +409,8 @@ module _ (s : List ℕ) (from : ℕ) (i : from < length s) (b : in_line (get_or 
       st.head.first ≡ e₁
       → e₁ ≤ st.head.end
       → st.head.end ≤ st.to
-      → ((seen : Bool) → meaning seen (l₁ ∷ taken h.left after₁) ≡ meaning_at seen s from (more_lines 1 st))
-      → BlockAt s from (more_lines 1 st)
+      → ((seen : Bool) → meaning seen (l₁ ∷ taken h.left after₁) ≡ meaning_at seen s (record { from = from; stop = more_lines 1 st }))
+      → BlockAt s (record { from = from; stop = more_lines 1 st })
   unfolding left_of first_number bytes_of join unbroken
   block h k f e t m =
       let tk = took₁ h in
@@ -421,7 +421,7 @@ module _ (s : List ℕ) (from : ℕ) (i : from < length s) (b : in_line (get_or 
         lines = l₁ ∷ taken h.left after₁;
         divides =
             ap fresh lines₁
-            ∙ fresh_line l₁ after₁ (is_empty-not x₁ some₁)
+            ∙ fresh_line l₁ after₁ (is_empty-not x₁ Some₁)
             ∙ inside_is (l₁ ∷ []) after₁
             ∙ rw (sym k) (ap (λ r. (l₁ ∷ taken h.left after₁) ∷ r) tk.goes);
         meant = m;
@@ -429,7 +429,7 @@ module _ (s : List ℕ) (from : ℕ) (i : from < length s) (b : in_line (get_or 
         covers = ap split text ∙ split-join x₁ more (rw (run-whole (drop from s)) tk.whole);
         counted = omega (arith, tk.many);
         numbers = λ k. omega (arith, tk.numbers k, ends_same s from);
-        starts = omega (arith, some₁, f);
+        starts = omega (arith, Some₁, f);
         first_end_lem = omega (arith, f);
         end_to = t;
         to_at = tk.upto;
@@ -439,7 +439,7 @@ module _ (s : List ℕ) (from : ℕ) (i : from < length s) (b : in_line (get_or 
   abbrev head_first : Head
   head_first = record { left = 0; first = e₁; end = e₁; timed = true }
 
-  first_timed : holds_arrow x₁ ≡ true → BlockAt s from (more_lines 1 (collect_from head_first e₁ after₁))
+  first_timed : holds_arrow x₁ ≡ true → BlockAt s (record { from = from; stop = more_lines 1 (collect_from head_first e₁ after₁) })
   unfolding next_left meaning_at
   first_timed y =
       let hs = head_stays head_first e₁ after₁ refl in
@@ -460,17 +460,17 @@ module _ (s : List ℕ) (from : ℕ) (i : from < length s) (b : in_line (get_or 
     stop₁ = collect_from head_one e₁ after₁
 
     -- the first line is the only one
-    alone : stop₁.head ≡ head_one → stop₁.to ≡ e₁ → taken 1 after₁ ≡ [] → BlockAt s from (more_lines 1 stop₁)
+    alone : stop₁.head ≡ head_one → stop₁.to ≡ e₁ → taken 1 after₁ ≡ [] → BlockAt s (record { from = from; stop = more_lines 1 stop₁ })
     unfolding meaning_at
     alone hs t only =
         block head_one left₁ (ap (λ h. h.first) hs) (omega (arith, ap (λ h. h.end) hs)) (omega (arith, ap (λ h. h.end) hs, t))
         (λ seen. ap (λ r. meaning seen (l₁ ∷ r)) only ∙ meaning-one seen l₁ n ∙ rw (hs, t, eq-eqb e₁ e₁ refl))
 
-    at_end : length s ≤ e₁ → BlockAt s from (more_lines 1 stop₁)
+    at_end : length s ≤ e₁ → BlockAt s (record { from = from; stop = more_lines 1 stop₁ })
     unfolding collect_from taken
     at_end k =
-        let none = lines_end s (e₁ + 1) (omega arith) in
-        alone (ap (λ r. (collect_from head_one e₁ r).head) none) (ap (λ r. (collect_from head_one e₁ r).to) none) (ap (taken 1) none)
+        let None = lines_end s (e₁ + 1) (omega arith) in
+        alone (ap (λ r. (collect_from head_one e₁ r).head) None) (ap (λ r. (collect_from head_one e₁ r).to) None) (ap (taken 1) None)
 
     module _ (k : e₁ < length s) where
       abbrev x₂ : List ℕ
@@ -500,7 +500,7 @@ module _ (s : List ℕ) (from : ℕ) (i : from < length s) (b : in_line (get_or 
       took₂ : (h : Head) → Took s e₂ h after₂
       took₂ h = took s (length s) e₂ h (omega arith) (line_inside s (e₁ + 1) inside₂) lf₂
 
-      stopped : stop_at 1 l₂ ≡ true → BlockAt s from (more_lines 1 stop₁)
+      stopped : stop_at 1 l₂ ≡ true → BlockAt s (record { from = from; stop = more_lines 1 stop₁ })
       stopped y =
           let st = collect_stop head_one e₁ l₂ after₂ y in
           alone (ap (λ r. (collect_from head_one e₁ r).head) lines₂ ∙ st.2) (ap (λ r. (collect_from head_one e₁ r).to) lines₂ ∙ st.1)
@@ -521,7 +521,7 @@ module _ (s : List ℕ) (from : ℕ) (i : from < length s) (b : in_line (get_or 
         abbrev head_second : Head
         head_second = record { left = 0; first = e₁; end = e₂; timed = true }
 
-        second_timed : holds_arrow x₂ ≡ true → BlockAt s from (more_lines 1 stop₁)
+        second_timed : holds_arrow x₂ ≡ true → BlockAt s (record { from = from; stop = more_lines 1 stop₁ })
         unfolding meaning_at
         second_timed y =
             let st : stop₁ ≡ more_lines 1 (collect_from head_second e₂ after₂) = step₂ true y in
@@ -544,7 +544,7 @@ module _ (s : List ℕ) (from : ℕ) (i : from < length s) (b : in_line (get_or 
         abbrev head_none : Head
         head_none = record { left = 0; first = e₁; end = e₁; timed = false }
 
-        untimed : holds_arrow x₂ ≡ false → BlockAt s from (more_lines 1 stop₁)
+        untimed : holds_arrow x₂ ≡ false → BlockAt s (record { from = from; stop = more_lines 1 stop₁ })
         unfolding meaning_at
         untimed m =
             let st : stop₁ ≡ more_lines 1 (collect_from head_none e₂ after₂) = step₂ false m in
@@ -561,7 +561,7 @@ module _ (s : List ℕ) (from : ℕ) (i : from < length s) (b : in_line (get_or 
             ∙ ap (λ x. definition_with seen x (joined (l₂ ∷ taken 0 after₂))) (line_part_lem s from inside₁)
             ∙ rw (text, st, hs, ne_eqb e₁ to (λ q. absurd (omega (arith, tk.not-before)))))
 
-    first_untimed : BlockAt s from (more_lines 1 stop₁)
+    first_untimed : BlockAt s (record { from = from; stop = more_lines 1 stop₁ })
     first_untimed =
         by-test (ltb e₁ (length s))
         (λ y. let k = ltb-true e₁ (length s) y in
@@ -570,10 +570,10 @@ module _ (s : List ℕ) (from : ℕ) (i : from < length s) (b : in_line (get_or 
         (λ g. by-test (holds_arrow (x₂ k)) (second_timed k g) (untimed k g)))
         (λ z. at_end (ltb-false e₁ (length s) z))
 
-  pub block_at : BlockAt s from (collect_from (record { left = 2; first = 0; end = 0; timed = false }) from (lines_from s from))
+  pub block_at : BlockAt s (record { from = from; stop = collect_from (record { left = 2; first = 0; end = 0; timed = false }) from (lines_from s from) })
   block_at =
       let opening : Head = record { left = 2; first = 0; end = 0; timed = false } in
-      let st = collect_line s from opening from inside₁ some₁ e₁ refl refl in
+      let st = collect_line s from opening from inside₁ Some₁ e₁ refl refl in
       by-test (holds_arrow x₁)
       (λ y. rw (st, y) (first_timed y))
       (λ n. rw (st, n) (first_untimed n))

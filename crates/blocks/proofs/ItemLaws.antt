@@ -25,7 +25,6 @@ use Rattle.format.specs.declared.times.TimingLine.{TimingLine}
 use Rattle.format.specs.declared.settings.Span.{Span}
 use Rattle.regions.specs.Changes.{taken_is}
 use Rattle.blocks.specs.Items.{part, after_line_end, after_span, cue_with, item_is, kind_is, timed_is, timed_kind, region_item}
-use Rattle.blocks.proofs.LineLaws.{starts-short}
 
 module _ (s : List ℕ) (a b : ℕ) (h : a ≤ b) (l : b ≤ length s) where
   pub part_of_lem : part_of s a b ≡ part s a b
@@ -61,31 +60,14 @@ pub region_is_lem : (t : Flagged RegionValues) → region_item (taken_is t) ≡ 
 unfolding region_of
 region_is_lem t = refl
 
-pub starts-same : (w x : List ℕ) → length w ≤ length x → starts_with w x ≡ same (take (length w) x) w
-unfolding starts_with same
-starts-same [] x l = refl
-starts-same (c ∷ w) [] l = absurd (omega arith)
-starts-same (c ∷ w) (b ∷ x) l = ap (λ t. eqb b c && t) (starts-same w x (omega arith))
-
--- a line that is a word, by the tests that the code makes
-module _ (w x : List ℕ) where
-  pub word-short : length x < length w → is_word w x ≡ false
-  unfolding is_word
-  word-short l = rw (starts-short w x l)
-
-  pub word-is : length w ≤ length x → is_word w x ≡ (same (take (length w) x) w && all white (drop (length w) x))
-  unfolding is_word
-  word-is l = rw (starts-same w x l)
-
--- a run that ends where the text does
-pub run_to_end : (p : ℕ → Bool) (s : List ℕ) (n : ℕ) → n ≤ length s → eqb (n + length (run p (drop n s))) (length s) ≡ all p (drop n s)
-run_to_end p s n l =
-    let r = run_length p (drop n s) in
-    by-test (ltb (length (run p (drop n s))) (length (drop n s)))
-    (λ y. let k = ltb-true (length (run p (drop n s))) (length (drop n s)) y in
-    ne_eqb (n + length (run p (drop n s))) (length s) (λ q. absurd (omega (arith, length-drop n s))) ∙ sym (run-not-all p (drop n s) k))
-    (λ z. let k = ltb-false (length (run p (drop n s))) (length (drop n s)) z in
-    eq-eqb (n + length (run p (drop n s))) (length s) (omega (arith, length-drop n s)) ∙ sym (all-run p (drop n s) (omega arith)))
+-- a run that is the whole text
+pub run_to_end : (p : ℕ → Bool) (s : List ℕ) → eqb (0 + length (run p s)) (length s) ≡ all p s
+run_to_end p s =
+    let whole : 0 + length (run p s) ≡ length (run p s) = omega arith in
+    rw whole
+    (by-test (eqb (length (run p s)) (length s))
+    (λ y. y ∙ sym (all-run p s (eqb-true (length (run p s)) (length s) y)))
+    (λ n. n ∙ sym (run-not-all p s (omega (arith, run_length p s, eqb-false (length (run p s)) (length s) n)))))
 
 pub no_bytes : (x : List ℕ) → is_empty x ≡ true → x ≡ []
 unfolding is_empty

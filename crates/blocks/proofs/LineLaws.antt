@@ -1,24 +1,30 @@
 -- The lines of a text at a place, as a loop goes over them, and arrows in them.
 use Prim.Native.Nat.{ℕ, zero, suc, ◌+◌, ◌-◌, ◌≤◌, ◌<◌}
 use mathlib.Core.Path.{◌≡◌, refl, sym, ap, ◌∙◌}
-use mathlib.Core.Bool.{Bool, true, false, cond, ◌&&◌, ◌||◌}
+use mathlib.Core.Bool.{Bool, true, false, cond, ◌&&◌, ◌||◌, true≢false}
 use mathlib.Core.List.{List, [], ◌∷◌, ◌++◌}
 use native.Mathlib.Numerals.{add-one}
 use native.Mathlib.Omega.{arith}
 use lib.Dec.{eqb, ltb}
 use lib.ListN.{length, get_or, take, drop, length-drop}
 use lib.Seq.{take-suc, take-add, drop-cons, drop-drop}
-use borrow.Author.Tests.{eqb-true, ne_eqb, lt-ltb, le-ltb, ltb-true, ltb-false}
+use borrow.Author.Tests.{eqb-true, eq-eqb, ne_eqb, lt-ltb, le-ltb, ltb-true, ltb-false}
+use Rattle.std.specs.Cmp.Lexicographic.{pointwise}
+use Rattle.std.proofs.lemmas.Cmp.{nat_list_eq_equiv}
+use Rattle.std.specs.List.{count_by}
+use Rattle.std.proofs.lemmas.List.Recursion.{is_count_by}
 use Rattle.format.specs.Bytes.{ascii, lf}
 use Rattle.format.specs.Texts.{starts_with, is_empty, all, run}
 use Rattle.format.specs.Lines.{split_list_at, split, before, on_first}
 use Rattle.format.specs.Blocks.{Line, lines_at, holds_arrow}
+use Rattle.laws.proofs.Lines.{splits}
 use Rattle.laws.proofs.Tests.{by-test, and_left, and_right, and-false, and-true}
 use Rattle.laws.proofs.Runs.{run-next, run-stop, run_end, run_length, run_take}
 use Rattle.values.proofs.NumberLaws.{is_empty-not}
 use Rattle.blocks.specs.declared.collecting.Head.{Head}
 use Rattle.blocks.specs.declared.collecting.Why.TheVariants as Why
-use Rattle.blocks.specs.Collecting.{line_ends, lines_from, head_after, more_lines, collect_from, in_line, line_at}
+use Rattle.blocks.specs.declared.collecting.Stop.{Stop}
+use Rattle.blocks.specs.Collecting.{line_ends, lines_from, head_after, more_lines, collect_from, in_line, line_at, ArrowOrEnd}
 
 -- the lines after a text's first line
 others : List ℕ → List (List ℕ)
@@ -37,6 +43,11 @@ split-first (b ∷ s) =
     by-test (eqb b lf)
     (λ y. rw (y, lt-ltb 0 (suc (length s)) (omega arith)))
     (λ n. rw (n, split-first s, ltb-suc (length (run in_line s)) (length s)))
+
+-- the line ends of a text, as the code counts them
+pub ends_counted : (s : List ℕ) → line_ends s ≡ count_by (λ b. eqb b lf) s
+unfolding line_ends
+ends_counted s = is_count_by line_ends (λ b. eqb b lf) refl (λ b t. by-test (eqb b lf) (λ y. rw y refl) (λ n. rw n (omega arith))) s
 
 -- how many LF texts have
 pub ends_append : (x y : List ℕ) → line_ends (x ++ y) ≡ line_ends x + line_ends y
@@ -68,6 +79,17 @@ ends_few [] zero = omega arith
 ends_few [] (suc n) = omega arith
 ends_few (b ∷ s) zero = omega arith
 ends_few (b ∷ s) (suc n) = by-test (eqb b lf) (λ y. rw y (omega (arith, ends_few s n))) (λ z. rw z (omega (arith, ends_few s n)))
+
+-- a text has one line more than LF
+pub ends-split : (x : List ℕ) → length (split x) ≡ suc (line_ends x)
+unfolding line_ends split_list_at before on_first
+ends-split [] = refl
+ends-split (b ∷ x) =
+    let t = splits x in
+    let n = ends-split x in
+    by-test (eqb b lf)
+    (λ y. rw y (omega arith))
+    (λ z. rw (z, t.is) (omega (arith, rw t.is at n)))
 
 -- as many as bytes in a run of LF, and none in a line
 ends_empty : (x : List ℕ) → line_ends (run (λ b. eqb b lf) x) ≡ length (run (λ b. eqb b lf) x)
@@ -156,43 +178,80 @@ arrow-next s i l e =
     let next = run-next in_line s i l e in
     rw next (ap (λ t. t || holds_arrow (run in_line (drop (i + 1) s))) (sym (ap (starts_with (ascii "-->")) next) ∙ starts-run in_line (ascii "-->") (drop i s) refl))
 
-pub starts-short : (w x : List ℕ) → length x < length w → starts_with w x ≡ false
+-- up to i no arrow stands in the line that begins at p
+pub record Sought (s : List ℕ) (p i : ℕ) : Type 0 where
+  pub begins : p ≤ i
+  pub same_end : i + length (line_at s i) ≡ p + length (line_at s p)
+  pub holds : holds_arrow (line_at s p) ≡ holds_arrow (line_at s i)
+
+pub sought_first : (s : List ℕ) (p : ℕ) → Sought s p p
+sought_first s p = record { begins = omega arith; same_end = refl; holds = refl }
+
+module _ (s : List ℕ) (p i : ℕ) (so : Sought s p i) where
+  pub sought_next :
+      i < length s
+      → (get_or s i 0 ≡ lf → ⊥)
+      → starts_with (ascii "-->") (drop i s) ≡ false
+      → Sought s p (i + 1)
+  sought_next l n a =
+      let byte : in_line (get_or s i 0) ≡ true = rw (ne_eqb (get_or s i 0) lf n) refl in
+      let next = run-next in_line s i l byte in
+      record {
+        begins = omega (arith, so.begins);
+        same_end = omega (arith, so.same_end, ap length next);
+        holds = so.holds ∙ arrow-next s i l byte ∙ ap (λ t. t || holds_arrow (line_at s (i + 1))) a;
+      }
+
+  pub sought_arrow :
+      i < length s
+      → (get_or s i 0 ≡ lf → ⊥)
+      → starts_with (ascii "-->") (drop i s) ≡ true
+      → ArrowOrEnd s p i
+  sought_arrow l n a =
+      let byte : in_line (get_or s i 0) ≡ true = rw (ne_eqb (get_or s i 0) lf n) refl in
+      record {
+        begins = so.begins;
+        inside = omega arith;
+        same_end = so.same_end;
+        holds = so.holds ∙ arrow-next s i l byte ∙ rw a;
+        ends = λ f. absurd (true≢false (sym a ∙ f));
+      }
+
+  at_end : i ≤ length s → line_at s i ≡ [] → ArrowOrEnd s p i
+  unfolding holds_arrow all starts_with
+  at_end l none =
+      record {
+        begins = so.begins;
+        inside = l;
+        same_end = so.same_end;
+        holds = so.holds ∙ ap holds_arrow none ∙ sym (sym (starts-run in_line (ascii "-->") (drop i s) refl) ∙ ap (starts_with (ascii "-->")) none);
+        ends = λ f. none;
+      }
+
+  pub sought_lf : i < length s → get_or s i 0 ≡ lf → ArrowOrEnd s p i
+  sought_lf l e = at_end (omega arith) (run-stop in_line s i l (rw (eq-eqb (get_or s i 0) lf e) refl))
+
+  pub sought_end : i ≡ length s → ArrowOrEnd s p i
+  sought_end e = at_end (omega arith) (run_end in_line s i (omega arith))
+
+-- beginning with a word, as the library's methods tell it
+pub starts_prefix : (w x : List ℕ) → starts_with w x ≡ pointwise eqb (take (length w) x) w
 unfolding starts_with
-starts-short [] x h = absurd (omega arith)
-starts-short (c ∷ w) [] h = refl
-starts-short (c ∷ w) (b ∷ x) h = and-false (eqb b c) (starts_with w x) (starts-short w x (omega arith))
+starts_prefix [] x = refl
+starts_prefix (c ∷ w) [] = refl
+starts_prefix (c ∷ w) (b ∷ x) = ap (λ t. eqb b c && t) (starts_prefix w x)
 
--- `-->` at a place, byte by byte
-module _ (s : List ℕ) (i : ℕ) where
-  pub arrow-bytes :
-      i + 2 < length s
-      → starts_with (ascii "-->") (drop i s)
-      ≡ (eqb (get_or s i 0) 0x2D && (eqb (get_or s (i + 1) 0) 0x2D && eqb (get_or s (i + 2) 0) 0x3E))
-  unfolding starts_with
-  arrow-bytes l =
-      let e1 : i + 1 ≡ suc i = omega arith in
-      let e2 : i + 2 ≡ suc (suc i) = omega arith in
-      rw (
-        e1,
-        e2,
-        drop-cons s i 0 (omega arith),
-        drop-cons s (suc i) 0 (omega arith),
-        drop-cons s (suc (suc i)) 0 (omega arith),
-        and-true (eqb (get_or s (suc (suc i)) 0) 0x3E),
-      )
+pub starts_is : (w x : List ℕ) → starts_with w x ≡ pointwise eqb w (take (length w) x)
+starts_is w x = starts_prefix w x ∙ nat_list_eq_equiv.symm (take (length w) x) w
 
-  pub arrow_other : i < length s → (get_or s i 0 ≡ 0x2D → ⊥) → starts_with (ascii "-->") (drop i s) ≡ false
-  unfolding starts_with
-  arrow_other l n = rw (drop-cons s i 0 l, ne_eqb (get_or s i 0) 0x2D n)
+holds_some : (x : List ℕ) → holds_arrow x ≡ true → 0 < length x
+unfolding holds_arrow
+holds_some [] a = absurd (true≢false (sym a))
+holds_some (b ∷ x) a = omega arith
 
-  pub arrow-short : length s < i + 3 → starts_with (ascii "-->") (drop i s) ≡ false
-  arrow-short l = starts-short (ascii "-->") (drop i s) (omega (arith, length-drop i s))
-
-pub line_stop : (s : List ℕ) (i : ℕ) → i ≤ length s → (ltb i (length s) && in_line (get_or s i 0)) ≡ false → line_at s i ≡ []
-line_stop s i l e =
-    by-test (ltb i (length s))
-    (λ y. let n : in_line (get_or s i 0) ≡ false = rw y at e in run-stop in_line s i (ltb-true i (length s) y) n)
-    (λ z. run_end in_line s i (ltb-false i (length s) z))
+no_line : (x : List ℕ) → length x ≡ 0 → x ≡ []
+no_line [] e = refl
+no_line (b ∷ x) e = absurd (omega arith)
 
 -- collecting, at the line that begins at a place
 module _ (s : List ℕ) (p : ℕ) (h : Head) (e : ℕ) (l : p ≤ length s) where
@@ -218,3 +277,66 @@ module _ (s : List ℕ) (p : ℕ) (h : Head) (e : ℕ) (l : p ≤ length s) wher
         → collect_from h e (lines_from s p) ≡ more_lines 1 (collect_from (head_after h end (holds_arrow (line_at s p))) end (lines_from s (end + 1)))
     unfolding collect_from
     collect_line end q a = at_line ∙ rw (is_empty-not (line_at s p) some, a, q)
+
+-- the same from what the code knows: where the line's first arrow stands or the line ends, whether an arrow stands there, and where the line ends
+module _
+    (s : List ℕ) (h : Head) (e p i n : ℕ) (arrow : Bool)
+    (mark : ArrowOrEnd s p i)
+    (told : arrow ≡ starts_with (ascii "-->") (drop i s))
+  where
+    holds : holds_arrow (line_at s p) ≡ arrow
+    holds = mark.holds ∙ sym told
+
+    l : p ≤ length s
+    l = omega (arith, mark.begins, mark.inside)
+
+    -- a stop at which no further line is taken
+    none_more : (st : Stop) → st.lines ≡ 0 → record { why = st.why; at = st.at; to = st.to; lines = n; head = st.head } ≡ more_lines n st
+    none_more st k =
+        let more : n ≡ n + st.lines = omega arith in
+        ap (λ m. record { why = st.why; at = st.at; to = st.to; lines = m; head = st.head }) more
+
+    pub stops_at_arrow :
+        h.left ≡ 0
+        → arrow ≡ true
+        → record { why = Why.Arrow; at = p; to = e; lines = n; head = h } ≡ more_lines n (collect_from h e (lines_from s p))
+    stops_at_arrow k a =
+        none_more (record { why = Why.Arrow; at = p; to = e; lines = 0; head = h }) refl
+        ∙ ap (more_lines n) (sym (collect_arrow s p h e l (holds_some (line_at s p) (holds ∙ a)) k (holds ∙ a)))
+
+    module _ (end : ℕ) (ended : end ≡ i + length (line_at s i)) where
+      pub stops_at_empty : end ≡ p → record { why = Why.EmptyLine; at = p; to = e; lines = n; head = h } ≡ more_lines n (collect_from h e (lines_from s p))
+      stops_at_empty q =
+          let none : line_at s p ≡ [] = no_line (line_at s p) (omega (arith, mark.same_end)) in
+          none_more (record { why = Why.EmptyLine; at = p; to = e; lines = 0; head = h }) refl ∙ ap (more_lines n) (sym (collect_empty s p h e l none))
+
+      pub end_inside : end ≤ length s
+      end_inside = omega (arith, mark.inside, run_length in_line (drop i s), length-drop i s)
+
+      module _ (some : end ≡ p → ⊥) (no_stop : eqb h.left 0 && arrow ≡ false) where
+        line_some : 0 < length (line_at s p)
+        line_some = omega (arith, mark.same_end)
+
+        pub takes :
+            more_lines (n + 1) (collect_from (head_after h end arrow) end (lines_from s (end + 1))) ≡ more_lines n (collect_from h e (lines_from s p))
+        takes =
+            let st = collect_from (head_after h end arrow) end (lines_from s (end + 1)) in
+            let more : n + 1 + st.lines ≡ n + (1 + st.lines) = omega arith in
+            let no : eqb h.left 0 && holds_arrow (line_at s p) ≡ false = rw holds no_stop in
+            ap (λ m. record { why = st.why; at = st.at; to = st.to; lines = m; head = st.head }) more
+            ∙ ap (λ a. more_lines n (more_lines 1 (collect_from (head_after h end a) end (lines_from s (end + 1))))) (sym holds)
+            ∙ ap (more_lines n) (sym (collect_line s p h e l line_some end (omega (arith, mark.same_end)) no))
+
+        pub stops_at_end :
+            end ≡ length s
+            → record { why = Why.End; at = end; to = end; lines = n + 1; head = head_after h end arrow } ≡ more_lines n (collect_from h e (lines_from s p))
+        unfolding collect_from
+        stops_at_end q =
+            let more : n + 1 ≡ n + 1 + 0 = omega arith in
+            ap (λ m. record { why = Why.End; at = end; to = end; lines = m; head = head_after h end arrow }) more
+            ∙ sym (ap (λ r. more_lines (n + 1) (collect_from (head_after h end arrow) end r)) (lines_end s (end + 1) (omega arith)))
+            ∙ takes
+
+-- nothing taken yet
+pub more_none : (st : Stop) → more_lines 0 st ≡ st
+more_none st = let e : 0 + st.lines ≡ st.lines = omega arith in ap (λ k. record { why = st.why; at = st.at; to = st.to; lines = k; head = st.head }) e

@@ -3,7 +3,7 @@ use Prim.Native.Nat.{ℕ, ◌+◌, ◌-◌, ◌≤◌, ◌<◌}
 use mathlib.Core.Path.{◌≡◌, refl, ap, ◌∙◌}
 use mathlib.Core.Bool.{Bool, false}
 use mathlib.Core.List.{List, ◌∷◌}
-use mathlib.Core.Option.{none}
+use Rattle.std.specs.Prelude.{None}
 use native.Mathlib.Omega.{arith}
 use lib.ListN.{length, get_or}
 use borrow.Author.Tests.{ne_eqb}
@@ -23,7 +23,7 @@ unfolding timings timestamp on_got past_run run is_empty
 no_times b x d w = rw (w, d)
 
 -- the part of no bytes, and one whose first byte begins neither a time nor whitespace, are no timing lines
-pub empty_line_lem : (s : List ℕ) (a b : ℕ) → a ≡ b → timing_line (part s a b) ≡ none
+pub empty_line_lem : (s : List ℕ) (a b : ℕ) → a ≡ b → timing_line (part s a b) ≡ None
 unfolding timing_line timed_line timing_of value timings timestamp on_got past_run run is_empty
 empty_line_lem s a b e = let n : b - a ≡ 0 = omega arith in rw n
 
@@ -33,7 +33,7 @@ pub other_line :
     → b ≤ length s
     → digit (get_or s a 0) ≡ false
     → white (get_or s a 0) ≡ false
-    → timing_line (part s a b) ≡ none
+    → timing_line (part s a b) ≡ None
 unfolding timing_line timed_line timing_of value
 other_line s a b k l d w = ap (λ r. value (timing_of (part s a b) r)) (ap timings (slice_first s a b (omega arith) k) ∙ no_times (get_or s a 0) (part s (a + 1) b).bytes d w)
 

@@ -5,7 +5,7 @@ use mathlib.Core.Bool.{Bool, true, false, not, ◌&&◌, ◌||◌, true≢false}
 use mathlib.Core.List.{List, [], ◌∷◌, ◌++◌}
 use native.Mathlib.Omega.{arith}
 use lib.Dec.{eqb, ltb}
-use lib.ListN.{length, get_or, take}
+use lib.ListN.{length, length-drop, get_or, take, drop}
 use borrow.Author.Tests.{eqb-true, eqb-false, ltb-true, ltb-false}
 use Rattle.format.specs.Bytes.{lf}
 use Rattle.format.specs.Texts.{is_empty}
@@ -13,14 +13,19 @@ use Rattle.format.specs.Blocks.{Line, between, blocks_from, blocks, holds_arrow}
 use Rattle.format.specs.Lists.{Item, nothing, cue, style, region, is_cue, items_from, item_over}
 use Rattle.format.specs.LineNumbers.{block_of_cue, cue_blocks_from, first_number, line_span}
 use Rattle.laws.proofs.Tests.{by-test, and_left, and_right}
+use Rattle.laws.proofs.Standing.{length-bytes}
 use Rattle.laws.proofs.Runs.{run-next, run-stop, run_end, run_at, run-after, run_length}
 use Rattle.blocks.specs.declared.collecting.Head.{Head}
 use Rattle.blocks.specs.declared.collecting.Stop.{Stop}
 use Rattle.blocks.specs.declared.collecting.Why.{Why}
-use Rattle.blocks.specs.declared.Next.{Next}
+use Rattle.std.specs.Prelude.{Option, None, Some}
+use denote.Enum.Bare.{sameb}
+use Rattle.blocks.specs.contracts.items.ItemKind.{the_type}
+use Rattle.blocks.specs.declared.items.ItemKind.{ItemKind}
+use Rattle.blocks.specs.declared.collecting.Block.{Block}
 use Rattle.blocks.specs.Collecting.{line_ends, lines_from, head_after, collect_from, opening, in_line, line_at, first_end, header_end, past_empty, next_is, is_end, WhyIs}
-use Rattle.blocks.specs.Items.{meaning_at, PlacesIn, NextAt, NextIs, item_is, kind_is, kind_over}
-use Rattle.blocks.proofs.LineLaws.{ends-run, line_from, lines_next, lines_end, collect_empty, collect_arrow, collect_line}
+use Rattle.blocks.specs.Items.{meaning_at, PlacesIn, BlockAt, NextAt, NextIs, item_is, kind_is, kind_over}
+use Rattle.blocks.proofs.LineLaws.{ends_few, ends-split, ends-run, line_from, lines_next, lines_end, collect_empty, collect_arrow, collect_line}
 use Rattle.blocks.proofs.BlockLaws.{fresh_empty, fresh_after, block_at, header_at, blocks-after, no_blocks, line_inside}
 use Rattle.blocks.proofs.ItemLaws.{no_bytes, some_bytes}
 
@@ -96,73 +101,101 @@ next_is_lem s at =
     (λ n. rw n (same ∙ fresh_after s from (ltb-false from (length s) n)))
 
 -- and what it is by the code's answer
-module _ (s : List ℕ) (at : ℕ) (r : Next) (e : r ≡ next_is s at) where
-  pub next-none : r ≡ Next.None → fresh s at ≡ []
+module _ (s : List ℕ) (at : ℕ) (r : Option Block) (e : r ≡ next_is s at) where
+  pub next-none : r ≡ None → fresh s at ≡ []
   next-none k = rw (← e, k) at (next_is_lem s at)
 
-  pub next-found : (from : ℕ) (st : Stop) → r ≡ Next.Block from st → NextAt s at from st
-  next-found from st k = rw (← e, k) at (next_is_lem s at)
-
--- no block stands after one that the text's end stopped
-pub last : (s : List ℕ) (at from : ℕ) (st : Stop) → NextAt s at from st → is_end st.why ≡ true → fresh s st.at ≡ []
-last s at from st n e = go st.why n.stopped e
-  where
-    go : (w : Why) → WhyIs s w st.at → is_end w ≡ true → fresh s st.at ≡ []
-    go Why.EmptyLine k f = absurd (true≢false (sym f))
-    go Why.End k f = fresh_after s st.at (omega arith)
-    go Why.Arrow k f = absurd (true≢false (sym f))
+  pub next-found : (b : Block) → r ≡ Some b → NextAt s at b
+  next-found b k = rw (← e, k) at (next_is_lem s at)
 
 -- the item of the next block, and those after it
 pub items-next :
-    (s : List ℕ) (at from : ℕ) (st : Stop) (seen : Bool)
-    → NextAt s at from st
-    → items_from seen (fresh s at) ≡ meaning_at seen s from st ∷ items_from (seen || is_cue (meaning_at seen s from st)) (fresh s st.at)
+    (s : List ℕ) (at : ℕ) (b : Block) (seen : Bool)
+    → NextAt s at b
+    → items_from seen (fresh s at) ≡ meaning_at seen s b ∷ items_from (seen || is_cue (meaning_at seen s b)) (fresh s b.stop.at)
 unfolding items_from
-items-next s at from st seen n =
-    let b = n.block in
-    ap (items_from seen) (n.same ∙ b.divides) ∙ rw (b.meant seen)
+items-next s at b seen n =
+    let block = n.block in
+    ap (items_from seen) (n.same ∙ block.divides) ∙ rw (block.meant seen)
 
 -- the same of the blocks that give cues
 pub cues-next :
-    (s : List ℕ) (at from : ℕ) (st : Stop) (seen : Bool) (next : NextAt s at from st)
-    → let i = meaning_at seen s from st in
-    cue_blocks_from seen (fresh s at) ≡ block_of_cue i next.block.lines ++ cue_blocks_from (seen || is_cue i) (fresh s st.at)
+    (s : List ℕ) (at : ℕ) (b : Block) (seen : Bool) (next : NextAt s at b)
+    → let i = meaning_at seen s b in
+    cue_blocks_from seen (fresh s at) ≡ block_of_cue i next.block.lines ++ cue_blocks_from (seen || is_cue i) (fresh s b.stop.at)
 unfolding cue_blocks_from
-cues-next s at from st seen n =
-    let b = n.block in
-    ap (cue_blocks_from seen) (n.same ∙ b.divides) ∙ rw (b.meant seen)
+cues-next s at b seen n =
+    let block = n.block in
+    ap (cue_blocks_from seen) (n.same ∙ block.divides) ∙ rw (block.meant seen)
 
 -- the lines of the next block, where the line at the place has the number n, from 1
 pub lines-found :
-    (s : List ℕ) (at from : ℕ) (st : Stop) (n : ℕ) (next : NextAt s at from st)
+    (s : List ℕ) (at : ℕ) (b : Block) (n : ℕ) (next : NextAt s at b)
     → n ≡ suc (line_ends (take at s))
-    → record { first = n + (from - at); count = st.lines } ≡ line_span next.block.lines
+    → record { first = n + (b.from - at); count = b.stop.lines } ≡ line_span next.block.lines
 unfolding line_span
-lines-found s at from st n next e =
-    let b = next.block in
-    let first : n + (from - at) ≡ suc (first_number b.lines) = omega (arith, next.skipped, next.empties, b.begins) in
-    rw (first, b.counted)
+lines-found s at b n next e =
+    let block = next.block in
+    let first : n + (b.from - at) ≡ suc (first_number block.lines) = omega (arith, next.skipped, next.empties, block.begins) in
+    rw (first, block.counted)
+
+-- where text is left after a block, its end did not stop it
+not_end : (s : List ℕ) (w : Why) (at : ℕ) → WhyIs s w at → at < length s → is_end w ≡ false
+not_end s Why.EmptyLine at k l = refl
+not_end s Why.End at k l = absurd (omega arith)
+not_end s Why.Arrow at k l = refl
 
 -- and the number of the line after it, where there is one
 pub line_after :
-    (s : List ℕ) (at from : ℕ) (st : Stop) (n : ℕ)
-    → NextAt s at from st
+    (s : List ℕ) (at : ℕ) (b : Block) (n : ℕ)
+    → NextAt s at b
     → n ≡ suc (line_ends (take at s))
-    → is_end st.why ≡ false
-    → n + (from - at) + st.lines ≡ suc (line_ends (take st.at s))
-line_after s at from st n next e k = omega (arith, next.skipped, next.empties, next.block.numbers k)
+    → is_end b.stop.why ≡ false
+    → n + (b.from - at) + b.stop.lines ≡ suc (line_ends (take b.stop.at s))
+line_after s at b n next e k = omega (arith, next.skipped, next.empties, next.block.numbers k)
+
+-- as a walk asks it: a place of the text is left
+pub line_left :
+    (s : List ℕ) (at : ℕ) (b : Block) (n : ℕ)
+    → NextAt s at b
+    → n ≡ suc (line_ends (take at s))
+    → b.stop.at < length s
+    → n + (b.from - at) + b.stop.lines ≡ suc (line_ends (take b.stop.at s))
+line_left s at b n next e l = line_after s at b n next e (not_end s b.stop.why b.stop.at next.stopped l)
+
+-- a block has no more lines than the text has bytes, and one
+pub few_lines : (s : List ℕ) (b : Block) → BlockAt s b → b.stop.lines ≤ length s + 1
+few_lines s b block =
+    let own = take (b.stop.to - b.from) (drop b.from s) in
+    omega (
+      arith,
+      block.counted,
+      length-bytes block.lines,
+      ap length block.covers,
+      ends-split own,
+      ends_few (drop b.from s) (b.stop.to - b.from),
+      length-drop b.from s,
+    )
 
 -- a block takes at least one byte
-pub moves : (s : List ℕ) (at from : ℕ) (st : Stop) → NextAt s at from st → at < st.at
-moves s at from st n =
-    let b = n.block in
-    omega (arith, n.skipped, b.starts, b.first_end_lem, b.end_to, b.to_at)
+pub moves : (s : List ℕ) (at : ℕ) (b : Block) → NextAt s at b → at < b.stop.at
+moves s at b n =
+    let block = n.block in
+    omega (arith, n.skipped, block.starts, block.first_end_lem, block.end_to, block.to_at)
 
 -- what the functions ask for that tell what a block gives
-pub places_in : (s : List ℕ) (at from : ℕ) (st : Stop) → NextAt s at from st → PlacesIn s from st
-places_in s at from st n =
-    let b = n.block in
-    (b.starts, b.first_end_lem, b.end_to, omega (arith, b.to_at, b.inside))
+pub places_in : (s : List ℕ) (at : ℕ) (b : Block) → NextAt s at b → PlacesIn s b
+places_in s at b n =
+    let block = n.block in
+    (block.starts, block.first_end_lem, block.end_to, omega (arith, block.to_at, block.inside))
+
+-- the test for a number above its limit, as the code makes it
+pub over_told : (k : ItemKind) → sameb the_type k ItemKind.Over ≡ kind_over k
+over_told ItemKind.Nothing = refl
+over_told ItemKind.Over = refl
+over_told ItemKind.Cue = refl
+over_told ItemKind.Style = refl
+over_told ItemKind.Region = refl
 
 pub over-is : (i : Item) → kind_over (kind_is (item_is i)) ≡ item_over i
 unfolding item_over

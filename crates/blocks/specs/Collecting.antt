@@ -1,13 +1,14 @@
 -- Collecting a block by places of the text. `proofs/BlockLaws.antt` proves that this is what `format` says.
-use Rattle.std.specs.Prelude.{ℕ, ◌+◌, ◌-◌, ◌≡◌, Bool, true, false, cond, not, ◌&&◌, List, [], ◌∷◌, eqb, ltb, length, take, drop}
-use Rattle.format.specs.Bytes.{lf}
-use Rattle.format.specs.Texts.{is_empty, run}
+use Rattle.std.specs.Prelude.{ℕ, ◌+◌, ◌-◌, ◌≤◌, ◌≡◌, Bool, true, false, cond, not, ◌&&◌, List, [], ◌∷◌, eqb, ltb, length, take, drop}
+use Rattle.std.specs.Prelude.{Option, None, Some}
+use Rattle.format.specs.Bytes.{ascii, lf}
+use Rattle.format.specs.Texts.{starts_with, is_empty, run}
 use Rattle.format.specs.Lines.{split}
 use Rattle.format.specs.Blocks.{Line, lines_at, holds_arrow}
 use Rattle.blocks.specs.declared.collecting.Why.{Why}
 use Rattle.blocks.specs.declared.collecting.Head.{Head}
 use Rattle.blocks.specs.declared.collecting.Stop.{Stop}
-use Rattle.blocks.specs.declared.Next.{Next}
+use Rattle.blocks.specs.declared.collecting.Block.{Block}
 
 -- how many LF a text has
 unfoldable pub line_ends : List ℕ → ℕ
@@ -56,6 +57,14 @@ in_line b = not (eqb b lf)
 abbrev pub line_at : List ℕ → ℕ → List ℕ
 line_at s p = run in_line (drop p s)
 
+-- of the line that begins at p: where its first arrow stands; where the line ends, if it has none
+pub record ArrowOrEnd (s : List ℕ) (p i : ℕ) : Type 0 where
+  pub begins : p ≤ i
+  pub inside : i ≤ length s
+  pub same_end : i + length (line_at s i) ≡ p + length (line_at s p)
+  pub holds : holds_arrow (line_at s p) ≡ starts_with (ascii "-->") (drop i s)
+  pub ends : starts_with (ascii "-->") (drop i s) ≡ false → line_at s i ≡ []
+
 -- where the first line ends, and where the lines begin that stand after it and a header
 abbrev pub first_end : List ℕ → ℕ
 first_end s = 0 + length (line_at s 0)
@@ -69,11 +78,11 @@ abbrev pub past_empty : List ℕ → ℕ → ℕ
 past_empty s at = at + length (run (λ b. eqb b lf) (drop at s))
 
 -- the next block that begins at a place or after it
-unfoldable pub next_is : List ℕ → ℕ → Next
+unfoldable pub next_is : List ℕ → ℕ → Option Block
 next_is s at =
     cond (ltb (past_empty s at) (length s))
-    (Next.Block (past_empty s at) (collect_from opening (past_empty s at) (lines_from s (past_empty s at))))
-    Next.None
+    (Some (record { from = past_empty s at; stop = collect_from opening (past_empty s at) (lines_from s (past_empty s at)) }))
+    None
 
 abbrev pub is_end : Why → Bool
 is_end Why.EmptyLine = false

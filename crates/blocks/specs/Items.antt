@@ -1,6 +1,6 @@
 -- A collected block by its places, and what it means. `proofs/BlockLaws.antt` proves that this is what `format` says.
 use Rattle.std.specs.Prelude.{ℕ, ◌+◌, ◌-◌, ◌≤◌, ◌<◌, ◌≡◌, Bool, true, false, cond, List, [], ◌∷◌, eqb, length, take, drop}
-use Rattle.std.proofs.Math.Option.{Option, none, some}
+use Rattle.std.specs.Prelude.{Option, None, Some}
 use Rattle.format.specs.Bytes.{ascii}
 use Rattle.format.specs.Texts.{Part, empty_part}
 use Rattle.format.specs.RegionSettings.{region_settings, region_is}
@@ -16,8 +16,7 @@ use Rattle.timing.specs.declared.timing_line.LineKind.{LineKind}
 use Rattle.format.specs.declared.times.TimingLine.{TimingLine}
 use Rattle.regions.specs.declared.RegionTaken.{RegionTaken}
 use Rattle.blocks.specs.Collecting.{line_ends, lines_from, is_end, WhyIs}
-use Rattle.blocks.specs.declared.collecting.Stop.{Stop}
-use Rattle.blocks.specs.declared.Next.{Next}
+use Rattle.blocks.specs.declared.collecting.Block.{Block}
 use Rattle.blocks.specs.declared.items.CueRead.{CueRead}
 use Rattle.blocks.specs.declared.items.ItemKind.{ItemKind}
 use Rattle.blocks.specs.declared.items.Item as Made
@@ -32,8 +31,8 @@ abbrev pub after_line_end : List ℕ → ℕ → ℕ → Part
 after_line_end s e to = cond (eqb e to) empty_part (part s (e + 1) to)
 
 abbrev pub cue_with : Part → Part → Option Timing → Item
-cue_with id text none = nothing
-cue_with id text (some t) =
+cue_with id text None = nothing
+cue_with id text (Some t) =
     cue (record { id = id; start = t.start; end = t.end; settings = t.settings; region = t.region; text = text }) t.over
 
 abbrev pub definition_with : Bool → List ℕ → Part → Item
@@ -43,59 +42,60 @@ definition_with seen first text =
     (cond (is_word (ascii "REGION") first) (region_of (region_settings text)) nothing))
 
 -- the identifier and the timing line of a block that has one
-abbrev pub id_part : List ℕ → ℕ → Stop → Part
-id_part s from st = cond (eqb st.head.first st.head.end) empty_part (part s from st.head.first)
+abbrev pub id_part : List ℕ → Block → Part
+id_part s b = cond (eqb b.stop.head.first b.stop.head.end) empty_part (part s b.from b.stop.head.first)
 
-abbrev pub timing_part : List ℕ → ℕ → Stop → Part
-timing_part s from st =
-    cond (eqb st.head.first st.head.end) (part s from st.head.end) (part s (st.head.first + 1) st.head.end)
+abbrev pub timing_part : List ℕ → Block → Part
+timing_part s b =
+    cond (eqb b.stop.head.first b.stop.head.end) (part s b.from b.stop.head.end) (part s (b.stop.head.first + 1) b.stop.head.end)
 
--- what the block that begins at a place means, given whether a cue has succeeded
-unfoldable pub meaning_at : Bool → List ℕ → ℕ → Stop → Item
-meaning_at seen s from st =
-    cond st.head.timed
-    (cue_with (id_part s from st) (after_line_end s st.head.end st.to) (timing_line (timing_part s from st)))
-    (cond (eqb st.head.first st.to) nothing
-    (definition_with seen (part s from st.head.first).bytes (after_line_end s st.head.first st.to)))
+-- what a block means, given whether a cue has succeeded
+unfoldable pub meaning_at : Bool → List ℕ → Block → Item
+meaning_at seen s b =
+    cond b.stop.head.timed
+    (cue_with (id_part s b) (after_line_end s b.stop.head.end b.stop.to) (timing_line (timing_part s b)))
+    (cond (eqb b.stop.head.first b.stop.to) nothing
+    (definition_with seen (part s b.from b.stop.head.first).bytes (after_line_end s b.stop.head.first b.stop.to)))
 
--- the places of a block that begins at one and was collected stand in the text, in their order
-abbrev pub PlacesIn : List ℕ → ℕ → Stop → Type 0
-PlacesIn s from st = (from < st.head.first) × (st.head.first ≤ st.head.end) × (st.head.end ≤ st.to) × (st.to ≤ length s)
+-- the places of a block stand in the text, in their order
+abbrev pub PlacesIn : List ℕ → Block → Type 0
+PlacesIn s b =
+    (b.from < b.stop.head.first) × (b.stop.head.first ≤ b.stop.head.end) × (b.stop.head.end ≤ b.stop.to) × (b.stop.to ≤ length s)
 
 -- a line that is no word which opens a block without a timing line
 abbrev pub NoWord : List ℕ → Type 0
 NoWord line = (is_word (ascii "STYLE") line ≡ false) × (is_word (ascii "REGION") line ≡ false)
 
 -- whether a cue has succeeded or not, the block gives nothing
-abbrev pub GivesNothing : List ℕ → ℕ → Stop → Type 0
-GivesNothing s from st = (seen : Bool) → meaning_at seen s from st ≡ nothing
+abbrev pub GivesNothing : List ℕ → Block → Type 0
+GivesNothing s b = (seen : Bool) → meaning_at seen s b ≡ nothing
 
--- a block of the text that begins at a place, and those after it
-pub record BlockAt (s : List ℕ) (from : ℕ) (st : Stop) : Type 0 where
+-- a block of the text, and those after it
+pub record BlockAt (s : List ℕ) (b : Block) : Type 0 where
   pub lines : List Line
-  pub divides : blocks_from between (lines_from s from) ≡ lines ∷ blocks_from between (lines_from s st.at)
-  pub meant : (seen : Bool) → meaning seen lines ≡ meaning_at seen s from st
-  pub begins : first_number lines ≡ line_ends (take from s)
-  pub covers : split (part s from st.to).bytes ≡ bytes_of lines
-  pub counted : st.lines ≡ length lines
-  pub numbers : is_end st.why ≡ false → line_ends (take st.at s) ≡ line_ends (take from s) + st.lines
-  pub starts : from < st.head.first
-  pub first_end_lem : st.head.first ≤ st.head.end
-  pub end_to : st.head.end ≤ st.to
-  pub to_at : st.to ≤ st.at
-  pub inside : st.at ≤ length s
+  pub divides : blocks_from between (lines_from s b.from) ≡ lines ∷ blocks_from between (lines_from s b.stop.at)
+  pub meant : (seen : Bool) → meaning seen lines ≡ meaning_at seen s b
+  pub begins : first_number lines ≡ line_ends (take b.from s)
+  pub covers : split (part s b.from b.stop.to).bytes ≡ bytes_of lines
+  pub counted : b.stop.lines ≡ length lines
+  pub numbers : is_end b.stop.why ≡ false → line_ends (take b.stop.at s) ≡ line_ends (take b.from s) + b.stop.lines
+  pub starts : b.from < b.stop.head.first
+  pub first_end_lem : b.stop.head.first ≤ b.stop.head.end
+  pub end_to : b.stop.head.end ≤ b.stop.to
+  pub to_at : b.stop.to ≤ b.stop.at
+  pub inside : b.stop.at ≤ length s
 
 -- the block that was found at a place or after it
-pub record NextAt (s : List ℕ) (at from : ℕ) (st : Stop) : Type 0 where
-  pub skipped : at ≤ from
-  pub empties : line_ends (take from s) + at ≡ line_ends (take at s) + from
-  pub same : blocks_from between (lines_from s at) ≡ blocks_from between (lines_from s from)
-  pub block : BlockAt s from st
-  pub stopped : WhyIs s st.why st.at
+pub record NextAt (s : List ℕ) (at : ℕ) (b : Block) : Type 0 where
+  pub skipped : at ≤ b.from
+  pub empties : line_ends (take b.from s) + at ≡ line_ends (take at s) + b.from
+  pub same : blocks_from between (lines_from s at) ≡ blocks_from between (lines_from s b.from)
+  pub block : BlockAt s b
+  pub stopped : WhyIs s b.stop.why b.stop.at
 
-abbrev pub NextIs : List ℕ → ℕ → Next → Type 0
-NextIs s at Next.None = blocks_from between (lines_from s at) ≡ []
-NextIs s at (Next.Block from st) = NextAt s at from st
+abbrev pub NextIs : List ℕ → ℕ → Option Block → Type 0
+NextIs s at None = blocks_from between (lines_from s at) ≡ []
+NextIs s at (Some b) = NextAt s at b
 
 -- what a block gives, as the code holds it
 abbrev pub cue_is : Cue → CueRead

@@ -2,7 +2,9 @@
 ghost use Rattle.std.specs.Prelude.{◌≡◌, ◌&&◌, not, ltb, eqb, ◌≤◌, ◌<◌, length, get_or, drop};
 ghost use Rattle.format.specs.Bytes.{ascii, lf};
 ghost use Rattle.format.specs.Texts.{starts_with};
-ghost use Rattle.blocks.specs.Collecting.{is_end, head_after, lines_from, collect_from};
+ghost use Rattle.blocks.specs.Collecting.{head_after, lines_from, collect_from, ArrowOrEnd};
+
+use values::bytes::{ByteKind, past};
 
 // Why collecting stopped.
 #[derive(Clone, Copy)]
@@ -10,17 +12,6 @@ pub enum Why {
     EmptyLine,
     End,
     Arrow,
-}
-
-// Did the text's end stop it, so that no line is left.
-pub fn is_last(why: Why) -> bool
-    ensures { result ≡ is_end why }
-{
-    match why {
-        Why::EmptyLine => false,
-        Why::End => true,
-        Why::Arrow => false,
-    }
 }
 
 // What is known of a block's first lines. Its timing line is its first line, or the second where the first has no arrow.
@@ -48,6 +39,13 @@ pub struct Stop {
     pub head: Head,
 }
 
+// A block: where it begins, and where collecting it stopped.
+#[derive(Clone, Copy)]
+pub struct Block {
+    pub from: usize,
+    pub stop: Stop,
+}
+
 impl Head {
     // No line yet.
     pub const OPENING: Head = Head {
@@ -69,11 +67,10 @@ impl Head {
     fn after(self, end: usize, arrow: bool) -> Head
         ensures { result ≡ head_after self end arrow }
     {
-        let left = self.left;
-        if left == 0 {
+        if self.left == 0 {
             return self;
         }
-        let first = if left == 2 { end } else { self.first };
+        let first = if self.left == 2 { end } else { self.first };
         if arrow {
             return Head {
                 left: 0,
@@ -83,7 +80,7 @@ impl Head {
             };
         }
         Head {
-            left: left - 1,
+            left: self.left - 1,
             first,
             end: first,
             timed: false,
@@ -91,76 +88,67 @@ impl Head {
     }
 }
 
-// Does a byte of a line stand here.
-fn in_line(s: &[u8], i: usize) -> bool
-    ensures { result ≡ (ltb i (length s.now) && not (eqb (get_or s.now i 0) lf)) }
-{
-    i < s.len() && s[i] != b'\n'
-}
-
 // Does `-->` stand here.
+#[tactic(auto, using(std::proofs::lemmas::Grind::common_steps, crate::proofs::LineLaws::starts_is))]
 fn arrow_at(s: &[u8], i: usize) -> bool
-    requires { i < length s.now }
+    requires { i ≤ length s.now }
     ensures { result ≡ starts_with (ascii "-->") (drop i s.now) }
 {
-    if s[i] != b'-' {
-        return false;
-    }
-    if s.len() - i < 3 {
-        return false;
-    }
-    s[i + 1] == b'-' && s[i + 2] == b'>'
+    s[i..].starts_with(b"-->")
 }
 
-// The lines from `from` on that a block takes whose first lines are known so far.
+// Where the first arrow stands of the line that begins here; where the line ends, if it has none.
+#[tactic(auto, using(crate::proofs::LineLaws::sought_first, crate::proofs::LineLaws::sought_next, crate::proofs::LineLaws::sought_arrow, crate::proofs::LineLaws::sought_lf, crate::proofs::LineLaws::sought_end))]
+fn arrow_or_end(s: &[u8], line: usize) -> usize
+    requires { line ≤ length s.now }
+    ensures { ArrowOrEnd s.now line result }
+{
+    for i in line..s.len() {
+        if s[i] == b'\n' || arrow_at(s, i) {
+            return i;
+        }
+    }
+    s.len()
+}
+
+// The lines from `from` on that a block takes whose first lines are known so far. Each byte is looked at once.
 pub(crate) fn collect(s: &[u8], from: usize, known: Head) -> Stop
     requires { from ≤ length s.now }
     ensures { result ≡ collect_from known from (lines_from s.now from) }
 {
-    let mut line = from;
-    let mut to = from;
-    let mut lines = 0;
-    let mut head = known;
-    'block: loop {
-        let mut i = line;
-        let mut arrow = false;
-        while in_line(s, i) {
-            if arrow_at(s, i) {
-                let left = head.left;
-                if left == 0 {
-                    break 'block Stop {
-                        why: Why::Arrow,
-                        at: line,
-                        to,
-                        lines,
-                        head,
-                    };
-                }
-                arrow = true;
-            }
-            i += 1;
+    let mut stop = Stop {
+        why: Why::End,
+        at: from,
+        to: from,
+        lines: 0,
+        head: known,
+    };
+    loop {
+        let mark = arrow_or_end(s, stop.at);
+        let arrow = arrow_at(s, mark);
+        if arrow && stop.head.left == 0 {
+            return Stop {
+                why: Why::Arrow,
+                ..stop
+            };
         }
-        if i == line {
-            break 'block Stop {
+        let end = past(s, mark, ByteKind::Until(b'\n'));
+        if end == stop.at {
+            return Stop {
                 why: Why::EmptyLine,
-                at: line,
-                to,
-                lines,
-                head,
+                ..stop
             };
         }
-        head = head.after(i, arrow);
-        to = i;
-        lines += 1;
-        if i == s.len() {
-            break 'block Stop {
+        stop.to = end;
+        stop.lines += 1;
+        stop.head = stop.head.after(end, arrow);
+        if end == s.len() {
+            return Stop {
                 why: Why::End,
-                at: i,
-                to,
-                lines,
-                head,
+                at: end,
+                ..stop
             };
         }
-        line = i + 1;
+        stop.at = end + 1;
     }
 }

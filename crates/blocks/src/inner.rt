@@ -1,13 +1,13 @@
 // What a block gives that was collected. The functions are for the crates above: they ask for a block that was found in the text.
 ghost use Rattle.std.specs.Prelude.{◌≡◌, true, ◌+◌, ◌≤◌, ◌<◌, length};
-ghost use Rattle.std.proofs.Math.Option.{none};
+ghost use Rattle.std.specs.Prelude.{None};
 ghost use Rattle.format.specs.Lists.{is_word};
 ghost use Rattle.format.specs.TimingLines.{timing_line};
 ghost use Rattle.values.specs.Tokens.{part_of};
 ghost use Rattle.timing.specs.TimingLines.{timed_line_is, line_kind};
 ghost use Rattle.blocks.specs.Items.{part, after_span, timed_is, region_item, definition_is, meaning_at, item_is, kind_is, timed_kind, NoWord, GivesNothing, PlacesIn};
 
-use crate::collecting::Stop;
+use crate::collecting::Block;
 use crate::items::{CueRead, Item, ItemKind, kind};
 use format::settings::Span;
 use format::times::TimingLine;
@@ -33,33 +33,26 @@ fn timed_item(s: &[u8], from: usize, to: usize, id: Span, text: Span) -> Item
     match timing::line_of(s, from, to) {
         TimingLine::Bad { fault: _, at: _ } => Item::Nothing,
         TimingLine::Over => Item::Over,
-        TimingLine::Good(read) => {
-            let settings = read.settings;
-            let region = read.region;
-            Item::Cue(CueRead {
-                id,
-                start: read.start,
-                end: read.end,
-                settings,
-                region,
-                text,
-            })
-        }
+        TimingLine::Good(read) => Item::Cue(CueRead {
+            id,
+            start: read.start,
+            end: read.end,
+            settings: read.settings,
+            region: read.region,
+            text,
+        }),
     }
 }
 
 // Is the line this word, with only whitespace after it.
+#[tactic(auto, using(crate::proofs::LineLaws::starts_prefix), unfolding(format::specs::Lists::is_word))]
 fn is_word(line: &[u8], word: &[u8]) -> bool
     ensures { result ≡ is_word word.now line.now }
 {
-    let n = word.len();
-    if line.len() < n {
+    let Some(rest) = line.strip_prefix(word) else {
         return false;
-    }
-    if !values::bytes::same_bytes(&line[..n], word) {
-        return false;
-    }
-    values::bytes::past(line, n, ByteKind::White) == line.len()
+    };
+    values::bytes::past(rest, 0, ByteKind::White) == rest.len()
 }
 
 fn region_item(taken: RegionTaken) -> Item
@@ -68,8 +61,7 @@ fn region_item(taken: RegionTaken) -> Item
     if taken.over {
         return Item::Over;
     }
-    let region = taken.region;
-    Item::Region(region)
+    Item::Region(taken.region)
 }
 
 // A block without a timing line: its first line ends at `first`, and others follow it.
@@ -91,18 +83,16 @@ fn definition(s: &[u8], from: usize, first: usize, to: usize, seen: bool) -> Ite
 }
 
 // Does no timing line stand from one place up to another, as its first byte tells: neither a time begins with it nor whitespace before one.
+#[tactic(auto, using(crate::proofs::NothingLaws::empty_line_lem, crate::proofs::NothingLaws::other_line))]
 fn no_time(s: &[u8], from: usize, to: usize) -> bool
     requires { (from ≤ to) × (to ≤ length s.now) }
-    ensures { result ≡ true → timing_line (part s.now from to) ≡ none }
+    ensures { result ≡ true → timing_line (part s.now from to) ≡ None }
 {
     if from == to {
         return true;
     }
     let b = s[from];
-    if values::bytes::is_digit(b) {
-        return false;
-    }
-    !values::bytes::is_white(b)
+    !values::bytes::is_digit(b) && !values::bytes::is_white(b)
 }
 
 // Is the first line neither STYLE nor REGION, as its first byte tells.
@@ -110,18 +100,15 @@ fn no_word(s: &[u8], from: usize, first: usize) -> bool
     requires { (from < first) × (first ≤ length s.now) }
     ensures { result ≡ true → NoWord (part s.now from first).bytes }
 {
-    let b = s[from];
-    if b == b'S' {
-        return false;
-    }
-    b != b'R'
+    s[from] != b'S' && s[from] != b'R'
 }
 
-// Does the block that begins at `from` give nothing, as one byte tells. Where it tells nothing, the block has to be read.
-pub fn gives_nothing(s: &[u8], from: usize, stop: Stop) -> bool
-    requires { PlacesIn s.now from stop }
-    ensures { result ≡ true → GivesNothing s.now from stop }
+// Does a block give nothing, as one byte tells. Where it tells nothing, the block has to be read.
+pub fn gives_nothing(s: &[u8], block: Block) -> bool
+    requires { PlacesIn s.now block }
+    ensures { result ≡ true → GivesNothing s.now block }
 {
+    let Block { from, stop } = block;
     let head = stop.head;
     let first = head.first;
     let end = head.end;
@@ -137,11 +124,12 @@ pub fn gives_nothing(s: &[u8], from: usize, stop: Stop) -> bool
     no_time(s, first + 1, end)
 }
 
-// What the block gives that begins at `from`, `seen` telling whether a cue has succeeded before it.
-pub fn item_at(s: &[u8], from: usize, stop: Stop, seen: bool) -> Item
-    requires { PlacesIn s.now from stop }
-    ensures { result ≡ item_is (meaning_at seen s.now from stop) }
+// What a block gives, `seen` telling whether a cue has succeeded before it.
+pub fn item_at(s: &[u8], block: Block, seen: bool) -> Item
+    requires { PlacesIn s.now block }
+    ensures { result ≡ item_is (meaning_at seen s.now block) }
 {
+    let Block { from, stop } = block;
     let head = stop.head;
     let first = head.first;
     let end = head.end;
@@ -170,14 +158,15 @@ fn timed_kind(s: &[u8], from: usize, to: usize) -> ItemKind
     }
 }
 
-// What the block gives that begins at `from`, without what that says: no cue is made.
-pub fn kind_at(s: &[u8], from: usize, stop: Stop, seen: bool) -> ItemKind
-    requires { PlacesIn s.now from stop }
-    ensures { result ≡ kind_is (item_is (meaning_at seen s.now from stop)) }
+// What a block gives, without what that says: no cue is made.
+pub fn kind_at(s: &[u8], block: Block, seen: bool) -> ItemKind
+    requires { PlacesIn s.now block }
+    ensures { result ≡ kind_is (item_is (meaning_at seen s.now block)) }
 {
-    if gives_nothing(s, from, stop) {
+    if gives_nothing(s, block) {
         return ItemKind::Nothing;
     }
+    let Block { from, stop } = block;
     let head = stop.head;
     let first = head.first;
     let end = head.end;

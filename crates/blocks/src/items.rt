@@ -1,6 +1,6 @@
 // What a block gives: a cue, a style text, a region, or nothing.
 ghost use Rattle.std.specs.Prelude.{◌≡◌};
-ghost use Rattle.blocks.specs.Items.{kind_is, kind_over};
+ghost use Rattle.blocks.specs.Items.{kind_is};
 
 use format::regions::Region;
 use format::settings::{Settings, Span};
@@ -28,7 +28,7 @@ pub enum Item {
 }
 
 // What a block gives, without what that says.
-#[derive(Clone, Copy)]
+#[derive(Clone, Copy, PartialEq, Eq)]
 pub enum ItemKind {
     Nothing,
     Over,
@@ -46,18 +46,5 @@ pub fn kind(item: Item) -> ItemKind
         Item::Cue(_) => ItemKind::Cue,
         Item::Style(_) => ItemKind::Style,
         Item::Region(_) => ItemKind::Region,
-    }
-}
-
-// Has a cue or a region a number above its limit.
-pub fn kind_over(kind: ItemKind) -> bool
-    ensures { result ≡ kind_over kind }
-{
-    match kind {
-        ItemKind::Nothing => false,
-        ItemKind::Over => true,
-        ItemKind::Cue => false,
-        ItemKind::Style => false,
-        ItemKind::Region => false,
     }
 }

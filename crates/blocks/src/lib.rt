@@ -5,7 +5,7 @@ ghost use Rattle.std.specs.Prelude.{◌≡◌};
 ghost use Rattle.format.specs.Blocks.{has_signature};
 ghost use Rattle.blocks.specs.Collecting.{line_ends, header_end, next_is};
 
-use collecting::{Head, Stop};
+use collecting::{Block, Head};
 use values::bytes::ByteKind;
 
 pub mod collecting;
@@ -13,40 +13,21 @@ pub mod inner;
 pub mod items;
 
 // How many line ends a plain text or a part of it has.
+#[tactic(auto, using(crate::proofs::LineLaws::ends_counted))]
 pub fn line_ends(s: &[u8]) -> usize
     ensures { result ≡ line_ends s.now }
 {
-    let mut i = 0;
-    let mut n = 0;
-    while i < s.len() {
-        if s[i] == b'\n' {
-            n += 1;
-        }
-        i += 1;
-    }
-    n
+    s.iter().filter(|&&b| b == b'\n').count()
 }
 
+#[tactic(auto, using(crate::proofs::LineLaws::starts_prefix), unfolding(format::specs::Blocks::has_signature, format::specs::Blocks::seventh))]
 pub fn has_signature(s: &[u8]) -> bool
     ensures { result ≡ has_signature s.now }
 {
-    if s.len() < 6 {
+    let Some(rest) = s.strip_prefix(b"WEBVTT") else {
         return false;
-    }
-    if !values::bytes::same_bytes(&s[..6], b"WEBVTT") {
-        return false;
-    }
-    if s.len() == 6 {
-        return true;
-    }
-    let b = s[6];
-    if b == b' ' {
-        return true;
-    }
-    if b == b'\t' {
-        return true;
-    }
-    b == b'\n'
+    };
+    matches!(rest, [] | [b' ' | b'\t' | b'\n', ..])
 }
 
 // Where the lines begin that stand after the first line of a text and a header.
@@ -61,23 +42,17 @@ pub fn past_header(s: &[u8]) -> usize
     stop.at
 }
 
-#[derive(Clone, Copy)]
-pub enum Next {
-    None,
-    // A block begins here, and is collected.
-    Block { from: usize, stop: Stop },
-}
-
 // The next block that begins at `at` or after it; none where that is after the text.
-pub fn next_block(s: &[u8], at: usize) -> Next
+#[tactic(auto, unfolding(crate::specs::Collecting::next_is))]
+pub fn next_block(s: &[u8], at: usize) -> Option<Block>
     ensures { result ≡ next_is s.now at }
 {
     let from = values::bytes::past(s, at, ByteKind::Only(b'\n'));
     if s.len() <= from {
-        return Next::None;
+        return None;
     }
-    Next::Block {
+    Some(Block {
         from,
         stop: collecting::collect(s, from, Head::OPENING),
-    }
+    })
 }

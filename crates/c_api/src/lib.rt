@@ -20,9 +20,10 @@ ghost use Rattle.format.specs.LookingUp.{looking_up};
 ghost use Rattle.format.specs.Parts.{part_answer_is, asking};
 ghost use Rattle.c_api.specs.Lent.{lent_words, place_told, entry_at};
 
-use format::PartAnswer;
+use answers::Told;
 use format::rows::{CUE_WORDS, CueRow, NEW_CUE_WORDS, NewCueRow, NodeRow, RegionRow, StyleRow};
 use format::settings::Span;
+use format::{PartError, ReadError};
 
 // The plain text of a raw file goes to `room`. Values: its length; for 2 the length needed.
 #[unsafe(no_mangle)]
@@ -31,7 +32,7 @@ pub extern "C" fn spatz_convert(raw: &[u8], room: &mut [u8], values: &mut [u64; 
     ensures room { room.new ≡ converted_room raw.now room.old }
     ensures values { values.new ≡ with_values 0 (returned (converting raw.now (length room.old))) values.old }
 {
-    answers::converted(plain::convert(raw, room), values)
+    plain::convert(raw, room).tell(values)
 }
 
 // Is a text plain. Values: for 3 the first place that is not.
@@ -40,7 +41,10 @@ pub extern "C" fn spatz_first_not_plain(text: &[u8], values: &mut [u64; 8]) -> u
     ensures number { result ≡ refusal_number (testing text.now) }
     ensures values { values.new ≡ with_values 0 (returned (testing text.now)) values.old }
 {
-    answers::plainness(plain::first_not_plain(text), values)
+    match plain::first_not_plain(text) {
+        None => 0,
+        Some(place) => ReadError::NotPlainAt(place).tell(values),
+    }
 }
 
 // The lists of a plain text go to the tables. Values: the counts of cues, regions and styles, for 6 too; for 3 the first place that is not plain.
@@ -58,7 +62,7 @@ pub extern "C" fn spatz_read(
     ensures styles { styles.new ≡ after_reading (reading text.now (length cues.old) (length regions.old) (length styles.old)) (style_rows (lists text.now).styles) styles.old }
     ensures values { values.new ≡ with_values 0 (returned (reading text.now (length cues.old) (length regions.old) (length styles.old))) values.old }
 {
-    answers::reading(reader::read(text, cues, regions, styles), values)
+    reader::read(text, cues, regions, styles).tell(values)
 }
 
 // A raw file's plain text goes to `text`, its lists to the tables. Values: the counts of cues, regions and styles, and then the text's length;
@@ -79,7 +83,7 @@ pub extern "C" fn spatz_read_file(
     ensures styles { styles.new ≡ after_reading (reading_raw raw.now (length text.old) (length cues.old) (length regions.old) (length styles.old)) (style_rows (lists (plain_text raw.now)).styles) styles.old }
     ensures values { values.new ≡ with_values 0 (returned (file_reading raw.now (length text.old) (length cues.old) (length regions.old) (length styles.old))) values.old }
 {
-    answers::file_reading(reader::read_file(raw, text, cues, regions, styles), values)
+    reader::read_file(raw, text, cues, regions, styles).tell(values)
 }
 
 // The region of this name among rows over a text, looked for from the last to the first; the name may stand in another text. Nothing is refused.
@@ -94,7 +98,7 @@ pub extern "C" fn spatz_find_region(
     ensures number { result ≡ refusal_number (looking_up text.now regions.now name.now) }
     ensures values { values.new ≡ with_values 0 (returned (looking_up text.now regions.now name.now)) values.old }
 {
-    answers::region_found(lookup::find_region(text, regions, name), values)
+    lookup::find_region(text, regions, name).tell(values)
 }
 
 // The timestamp that a text begins with. Values: 0, where it ends, and its milliseconds; or, where it cannot be read, the number of the step that
@@ -104,7 +108,7 @@ pub extern "C" fn spatz_time(text: &[u8], values: &mut [u64; 8]) -> u64
     ensures number { result ≡ refusal_number (time_told text.now) }
     ensures values { values.new ≡ with_values 0 (returned (time_told text.now)) values.old }
 {
-    answers::time(values::read_time(text), values)
+    values::read_time(text).tell(values)
 }
 
 // A text that has to be a time and nothing else, as what stands in a timestamp tag. Values as above.
@@ -113,7 +117,7 @@ pub extern "C" fn spatz_tag_time(text: &[u8], values: &mut [u64; 8]) -> u64
     ensures number { result ≡ refusal_number (tag_time_told text.now) }
     ensures values { values.new ≡ with_values 0 (returned (tag_time_told text.now)) values.old }
 {
-    answers::time(values::read_only_time(text), values)
+    values::read_only_time(text).tell(values)
 }
 
 // A line as a cue's timing line. Values: 0, where the end time ends, start and end in milliseconds; or the number of the step that failed, and where
@@ -123,7 +127,7 @@ pub extern "C" fn spatz_timing_line(line: &[u8], values: &mut [u64; 8]) -> u64
     ensures number { result ≡ refusal_number (timing_line_told (record { place = 0; bytes = line.now })) }
     ensures values { values.new ≡ with_values 0 (returned (timing_line_told (record { place = 0; bytes = line.now }))) values.old }
 {
-    answers::timing_line(timing::line_of(line, 0, line.len()), values)
+    timing::line_of(line, 0, line.len()).tell(values)
 }
 
 // The nodes of one cue's text go to the table, their strings to `room`. Values: rows and bytes used; for 2 the bytes, for 6 the rows needed.
@@ -140,7 +144,7 @@ pub extern "C" fn spatz_tree(
     ensures values { values.new ≡ with_values 0 (returned (treeing text.now (length room.old) (length nodes.old))) values.old }
     ensures stands { (count used : ℕ) → treeing text.now (length room.old) (length nodes.old) ≡ accepted (count ∷ used ∷ []) → TreeStands text.now (take used room.new) (take count nodes.new) }
 {
-    answers::tree(markup::tree(text, room, nodes), values)
+    markup::tree(text, room, nodes).tell(values)
 }
 
 // The file that has the lists of these rows over a text goes to `out`. Values: its length; for 8 list, index, test; for 10 the length needed.
@@ -158,7 +162,7 @@ pub extern "C" fn spatz_write(
     ensures values { values.new ≡ with_values 0 (returned (writing text.now styles.now regions.now cues.now (length out.old))) values.old }
     ensures back { (n : ℕ) → writing text.now styles.now regions.now cues.now (length out.old) ≡ accepted (n ∷ []) → ReadBack (contents_of_rows text.now styles.now regions.now cues.now) (take n out.new) }
 {
-    answers::writing(writer::write(text, styles, regions, cues, out), values)
+    writer::write(text, styles, regions, cues, out).tell(values)
 }
 
 // A raw file converted, read and written again to `out`, text room and tables being scratch. Values: its length; for 2, 6, 8, 10 as above.
@@ -180,10 +184,7 @@ pub extern "C" fn spatz_rewrite(
     ensures out { out.new ≡ rewritten_room raw.now (lengths text.old cues.old regions.old styles.old out.old) out.old }
     ensures values { values.new ≡ with_values 0 (returned (rewriting raw.now (lengths text.old cues.old regions.old styles.old out.old))) values.old }
 {
-    answers::rewriting(
-        rewriting::rewrite(raw, text, cues, regions, styles, out),
-        values,
-    )
+    rewriting::rewrite(raw, text, cues, regions, styles, out).tell(values)
 }
 
 // The row of a new cue that is lent as words. Words of another count are taken for a row that fails test 1.
@@ -193,10 +194,9 @@ fn lent_row(row: &[u64]) -> NewCueRow
     if row.len() != NEW_CUE_WORDS {
         return [u64::MAX; NEW_CUE_WORDS];
     }
-    [
-        row[0], row[1], row[2], row[3], row[4], row[5], row[6], row[7], row[8], row[9], row[10],
-        row[11], row[12], row[13], row[14], row[15], row[16], row[17], row[18], row[19],
-    ]
+    let mut lent = [0; NEW_CUE_WORDS];
+    lent.copy_from_slice(row);
+    lent
 }
 
 // The raw file with one cue replaced goes to `out`, the old file's plain text to `scratch`. The new cue is a row of 20 words over a text; another
@@ -218,32 +218,25 @@ pub extern "C" fn spatz_replace(
     ensures replaced { (n : ℕ) → replacing raw.now number text.now (lent_words row.now) (length scratch.old) (length out.old) ≡ accepted (n ∷ []) → Replaced raw.now number text.now (lent_words row.now) (take n out.new) }
 {
     let lent = lent_row(row);
-    answers::replacing(
-        replace::replace_cue(raw, number, lent, text, scratch, out),
-        values,
-    )
+    replace::replace_cue(raw, number, lent, text, scratch, out).tell(values)
 }
 
 // The row with this number; where there is none, one that says what no row says.
 fn row_at(cues: &[CueRow], number: usize) -> CueRow
     ensures { cue_entry result ≡ entry_at cues.now number }
 {
-    if number < cues.len() {
-        return cues[number];
-    }
-    [0; CUE_WORDS]
+    cues.get(number).copied().unwrap_or([0; CUE_WORDS])
 }
 
 // What asking for a part answers, the part standing at this place.
-fn tell_place(answer: PartAnswer, place: Span, values: &mut [u64; 8]) -> u64
+fn tell_place(answer: Result<(), PartError>, place: Span, values: &mut [u64; 8]) -> u64
     ensures number { result ≡ refusal_number (part_answer_is answer) }
     ensures values { values.new ≡ with_values 0 (place_told (part_answer_is answer) place) values.old }
 {
-    let PartAnswer::Part = answer else {
-        return answers::part(answer, values);
-    };
-    answers::put_2(values, place.from, place.to);
-    0
+    match answer {
+        Ok(()) => place.tell(values),
+        Err(error) => error.tell(values),
+    }
 }
 
 // Where the identifier of a cue stands. Values: from, to; for 7 the count; for 8 list, cue number, test.

@@ -1,3 +1,3 @@
 -- Laws that the functions' proofs cite.
-mod SettingLaws
+pub mod SettingLaws
 pub mod OverLaws

@@ -3,7 +3,8 @@ use Prim.Native.Nat.{ℕ}
 use mathlib.Core.Path.{◌≡◌, refl, sym, ap, ◌∙◌}
 use mathlib.Core.Bool.{Bool, false, true, not, ◌||◌}
 use mathlib.Core.List.{List, [], ◌∷◌}
-use mathlib.Core.Option.{Option, none, some, Option-elim}
+use Rattle.std.specs.Prelude.{Option, None, Some}
+use Rattle.std.specs.Option.{option_map_or}
 use Rattle.format.specs.Bytes.{ascii, comma, percent}
 use Rattle.format.specs.Texts.{Part, is_empty, same, ends_with, before_first, has}
 use Rattle.format.specs.Numbers.{percentage, LineNumber, line_number, over_line}
@@ -19,29 +20,28 @@ use Rattle.laws.proofs.Tests.{by-test, or_false}
 use Rattle.cue_settings.specs.Overs.{token_over, any_token_over}
 
 -- a percentage is no change that is above a limit
-line_percentage : (o : Option ℕ) (a : LineAlign) → is_over (Option-elim o Change.Nothing (line_at_percentage a)) ≡ false
-unfolding line_at_percentage Option-elim
-line_percentage none a = refl
-line_percentage (some n) a = refl
+line_percentage : (o : Option ℕ) (a : LineAlign) → is_over (option_map_or (line_at_percentage a) o Change.Nothing) ≡ false
+unfolding line_at_percentage
+line_percentage None a = refl
+line_percentage (Some n) a = refl
 
-size_never : (o : Option ℕ) → is_over (Option-elim o Change.Nothing Change.Size) ≡ false
-unfolding Option-elim
-size_never none = refl
-size_never (some n) = refl
+size_never : (o : Option ℕ) → is_over (option_map_or Change.Size o Change.Nothing) ≡ false
+size_never None = refl
+size_never (Some n) = refl
 
 position_never : (o : Option ℕ) (a : Option PositionAlign) → is_over (position_aligned o a) ≡ false
 unfolding position_aligned
-position_never none a = refl
-position_never (some n) none = refl
-position_never (some n) (some a) = refl
+position_never None a = refl
+position_never (Some n) None = refl
+position_never (Some n) (Some a) = refl
 
 -- a line number is above its limit with any alignment
 counted_alike : (o : Option LineNumber) (a b : LineAlign) → is_over (line_counted o a) ≡ is_over (line_counted o b)
 unfolding line_counted
-counted_alike none a b = refl
-counted_alike (some n) a b = by-test (over_line n) (λ y. rw y refl) (λ z. rw z refl)
+counted_alike None a b = refl
+counted_alike (Some n) a b = by-test (over_line n) (λ y. rw y refl) (λ z. rw z refl)
 
-aligned_alike : (place : List ℕ) (a b : LineAlign) → is_over (line_aligned place (some a)) ≡ is_over (line_aligned place (some b))
+aligned_alike : (place : List ℕ) (a b : LineAlign) → is_over (line_aligned place (Some a)) ≡ is_over (line_aligned place (Some b))
 unfolding line_aligned
 aligned_alike place a b =
     by-test (ends_with percent place)

@@ -2,84 +2,51 @@
 use Prim.Native.Nat.{ℕ, ◌+◌, ◌-◌}
 use lib.ListN.{take, drop}
 use mathlib.Core.Path.{◌≡◌, refl, sym, ap}
-use mathlib.Core.Bool.{true, cond, ◌||◌}
+use mathlib.Core.Bool.{true, false, ◌||◌}
 use mathlib.Core.List.{List}
-use mathlib.Core.Option.{Option, none, some, Option-elim}
-use Rattle.format.specs.Bytes.{ascii, percent}
-use Rattle.format.specs.Texts.{Part, is_empty, same, ends_with}
-use Rattle.format.specs.Numbers.{percentage, LineNumber, line_number, over_line}
+use Rattle.std.specs.Prelude.{Option, None, Some, Result, Ok, Err}
+use Rattle.format.specs.Bytes.{ascii}
+use Rattle.format.specs.Texts.{Part, is_empty, same}
+use Rattle.format.specs.Numbers.{LineNumber, over_line}
 use Rattle.format.specs.Tokens.{name_of, value_of, Flagged, folded}
-use Rattle.format.specs.CueSettings.{CueSettings, settings_after, is_over, direction, line_at_percentage, line_counted, line_aligned, line_change}
-use Rattle.format.specs.CueSettings.{position_change, position_aligned, alignment, named, cue_change, changed, cue_setting, span_is}
+use Rattle.format.specs.CueSettings.{CueSettings, settings_after, is_over, line_counted}
+use Rattle.format.specs.CueSettings.{named, cue_change, changed, cue_setting, span_is}
 use Rattle.format.specs.declared.settings.Settings.{Settings}
 use Rattle.format.specs.declared.settings.Change.{Change}
 use Rattle.format.specs.declared.settings.LineAlign.{LineAlign}
-use Rattle.format.specs.declared.settings.PositionAlign.{PositionAlign}
 use Rattle.format.specs.declared.settings.Line.TheVariants as Line
-use Rattle.format.specs.declared.settings.Position.TheVariants as Position
 use Rattle.laws.proofs.Tests.{by-test, or_false}
 use Rattle.laws.proofs.Changes.{name_after_lem, stepped, folds_as}
 use Rattle.values.specs.Tokens.{token_from, Named}
-use Rattle.values.specs.Numbers.{percentage_is, line_number_is}
-use Rattle.values.specs.declared.numbers.Percentage.{Percentage}
+use Rattle.values.specs.Numbers.{line_number_is}
 use Rattle.values.specs.declared.numbers.LineNumber.{LineNumber as Told}
-use Rattle.setting_words.specs.Words.{cue_name_is, line_aligned_is, position_aligned_is}
-use Rattle.setting_words.specs.declared.CueName.{CueName}
-use Rattle.setting_words.specs.declared.LineAligned.{LineAligned}
-use Rattle.setting_words.specs.declared.PositionAligned.{PositionAligned}
+use Rattle.values.specs.declared.numbers.NumberError.{NumberError}
 use Rattle.cue_settings.specs.Steps.{step_with, step_is, taken_is}
 use Rattle.cue_settings.specs.declared.steps.CueTaken.{CueTaken}
 
 -- a change by what the code was told
-abbrev pub number_told : Told → LineAlign → Change
-number_told Told.Bad a = Change.Nothing
-number_told Told.Over a = Change.Over
-number_told (Told.Good m n) a = Change.Line (record { line = Line.At m n; snap = true; align = a })
+abbrev pub number_told : Result Told NumberError → LineAlign → Change
+number_told (Err NumberError.Bad) a = Change.Nothing
+number_told (Err NumberError.Over) a = Change.Over
+number_told (Ok n) a = Change.Line (record { line = Line.At n.negative n.millionths; snap = true; align = a })
 
 pub number-told : (o : Option LineNumber) (a : LineAlign) → line_counted o a ≡ number_told (line_number_is o) a
 unfolding line_counted
-number-told none a = refl
-number-told (some n) a = by-test (over_line n) (λ y. rw y refl) (λ z. rw z refl)
+number-told None a = refl
+number-told (Some n) a = by-test (over_line n) (λ y. rw y refl) (λ z. rw z refl)
 
-abbrev pub aligned_told : List ℕ → LineAligned → Change
-aligned_told place LineAligned.Bad = Change.Nothing
-aligned_told place (LineAligned.Good a) =
-    cond (ends_with percent place) (Option-elim (percentage place) Change.Nothing (line_at_percentage a)) (line_counted (line_number place) a)
-
-pub aligned_told_lem : (place : List ℕ) (o : Option LineAlign) → line_aligned place o ≡ aligned_told place (line_aligned_is o)
-unfolding line_aligned
-aligned_told_lem place none = refl
-aligned_told_lem place (some a) = refl
-
-abbrev pub position_told : Percentage → PositionAligned → Change
-position_told Percentage.Bad a = Change.Nothing
-position_told (Percentage.Good n) PositionAligned.Bad = Change.Nothing
-position_told (Percentage.Good n) (PositionAligned.Good a) = Change.Position (record { position = Position.At n; align = a })
-
-pub position_told_lem : (o : Option ℕ) (a : Option PositionAlign) → position_aligned o a ≡ position_told (percentage_is o) (position_aligned_is a)
-unfolding position_aligned
-position_told_lem none a = refl
-position_told_lem (some n) none = refl
-position_told_lem (some n) (some a) = refl
-
-abbrev pub name_told : CueName → List ℕ → Settings → Change
-name_told CueName.Region x s = Change.Region
-name_told CueName.Vertical x s = Change.Vertical (direction x s.vertical)
-name_told CueName.Line x s = line_change x s.line.align
-name_told CueName.Position x s = position_change x s.position.align
-name_told CueName.Size x s = Option-elim (percentage x) Change.Nothing Change.Size
-name_told CueName.Align x s = Change.Align (alignment x s.align)
-name_told CueName.Other x s = Change.Nothing
-
-pub name-told : (name x : List ℕ) (s : Settings) → named name x s ≡ name_told (cue_name_is name) x s
+-- a name that is none of a setting's
+pub named_none :
+    (name x : List ℕ) (s : Settings)
+    → same name (ascii "region") ≡ false
+    → same name (ascii "vertical") ≡ false
+    → same name (ascii "line") ≡ false
+    → same name (ascii "position") ≡ false
+    → same name (ascii "size") ≡ false
+    → same name (ascii "align") ≡ false
+    → Change.Nothing ≡ named name x s
 unfolding named
-name-told name x s =
-    by-test (same name (ascii "region")) (λ y. rw y refl)
-    (λ n₁. by-test (same name (ascii "vertical")) (λ y. rw (n₁, y) refl)
-    (λ n₂. by-test (same name (ascii "line")) (λ y. rw (n₁, n₂, y) refl)
-    (λ n₃. by-test (same name (ascii "position")) (λ y. rw (n₁, n₂, n₃, y) refl)
-    (λ n₄. by-test (same name (ascii "size")) (λ y. rw (n₁, n₂, n₃, n₄, y) refl)
-    (λ n₅. by-test (same name (ascii "align")) (λ y. rw (n₁, n₂, n₃, n₄, n₅, y) refl) (λ n₆. rw (n₁, n₂, n₃, n₄, n₅, n₆) refl))))))
+named_none name x s region vertical line position size align = rw (region, vertical, line, position, size, align)
 
 -- one token: of each part that may become the name the code has the span
 step_is_lem :

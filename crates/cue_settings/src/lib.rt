@@ -15,8 +15,8 @@ pub mod steps;
 pub fn all_settings(text: &[u8], from: usize, to: usize) -> CueTaken
     ensures { result ≡ taken_is (cue_settings (part_of text.now from to)) }
 {
-    let end = values::least(to, text.len());
-    let start = values::least(from, end);
+    let end = to.min(text.len());
+    let start = from.min(end);
     steps::read_settings(&text[..end], start)
 }
 
@@ -24,7 +24,7 @@ pub fn all_settings(text: &[u8], from: usize, to: usize) -> CueTaken
 pub fn any_over(text: &[u8], from: usize, to: usize) -> bool
     ensures { result ≡ (cue_settings (part_of text.now from to)).over }
 {
-    let end = values::least(to, text.len());
-    let start = values::least(from, end);
+    let end = to.min(text.len());
+    let start = from.min(end);
     overs::any_token_over(&text[..end], start)
 }

@@ -5,9 +5,9 @@ ghost use Rattle.format.specs.CueSettings.{opening_settings, is_over, named};
 ghost use Rattle.cue_settings.specs.Overs.{token_over, any_token_over};
 
 use super::steps::line_change;
-use format::settings::LineAlign;
+use format::settings::{LineAlign, Span};
 use values::bytes::same_bytes;
-use values::tokens::{NameEnd, Token};
+use values::inner::tokens::{name_end, next_token};
 
 // The setting of this name, whose value stands from `from` up to the end of `s`.
 fn setting_over(name: &[u8], s: &[u8], from: usize) -> bool
@@ -17,8 +17,7 @@ fn setting_over(name: &[u8], s: &[u8], from: usize) -> bool
     if !same_bytes(name, b"line") {
         return false;
     }
-    let change = line_change(&s[from..], LineAlign::Start);
-    change.is_over()
+    line_change(&s[from..], LineAlign::Start).is_over()
 }
 
 // The token from `from` up to the end of `s`.
@@ -26,9 +25,9 @@ fn token_over(s: &[u8], from: usize) -> bool
     requires { from ≤ length s.now }
     ensures { result ≡ token_over (record { place = from; bytes = drop from s.now }) }
 {
-    match values::inner::tokens::name_end(s, from) {
-        NameEnd::None => false,
-        NameEnd::At(colon) => setting_over(&s[from..colon], s, colon + 1),
+    match name_end(s, from) {
+        Some(colon) => setting_over(&s[from..colon], s, colon + 1),
+        None => false,
     }
 }
 
@@ -38,14 +37,11 @@ pub(crate) fn any_token_over(s: &[u8], from: usize) -> bool
     ensures { result ≡ any_token_over (tokens from (drop from s.now)) }
 {
     let mut i = from;
-    loop {
-        let found = values::inner::tokens::next_token(s, i);
-        let Token::At { from: at, to } = found else {
-            return false;
-        };
+    while let Some(Span { from: at, to }) = next_token(s, i) {
         if token_over(&s[..to], at) {
             return true;
         }
         i = to;
     }
+    false
 }

@@ -4,7 +4,7 @@ use Prim.Native.Nat.{ℕ, ◌<◌}
 use mathlib.Core.Path.{◌≡◌, refl, sym, ap, ◌∙◌}
 use mathlib.Core.Bool.{Bool, true, false, cond}
 use mathlib.Core.List.{List, [], ◌∷◌, map}
-use mathlib.Core.Option.{Option, none, some}
+use Rattle.std.specs.Prelude.{Option, None, Some}
 use native.Mathlib.Omega.{arith}
 use lib.ListN.{length, get_or, length-map, get_or-map}
 use lib.Seq.{set-set, get_or-set_same}
@@ -45,8 +45,8 @@ module _ (next : Answer) where
 
   after_test : (o : Option ℕ) (n : ℕ) (a : Answer) → and_then (unless_test o n a) next ≡ unless_test o n (and_then a next)
   unfolding unless_test and_then if_accepted
-  after_test none n a = refl
-  after_test (some test) n a = refl
+  after_test None n a = refl
+  after_test (Some test) n a = refl
 
   checks_then : (raw : List ℕ) (number : ℕ) (t w : List ℕ) → and_then (after_checks raw number t w (accepted [])) next ≡ after_checks raw number t w next
   unfolding after_checks and_then if_accepted

@@ -1,18 +1,14 @@
 -- Numbers and escaped texts of fields as the code holds them: a text byte by byte, each with the place after what gives it.
 use Rattle.std.specs.Prelude.{ℕ, ◌+◌, ◌≡◌, Bool, true, false, cond, not, ◌&&◌, List, [], ◌∷◌, eqb, ltb, length}
-use Rattle.std.proofs.Math.Option.{Option, none, some, Option-elim}
+use Rattle.std.specs.Prelude.{Option, None, Some}
+use Rattle.std.specs.Prelude.{Result, Ok, Err}
+use Rattle.std.specs.Option.{option_map_or}
 use Rattle.format.specs.Bytes.{ascii, backslash, digit}
 use Rattle.format.specs.Texts.{is_empty, starts_with, all}
 use Rattle.format.specs.Numbers.{number_from}
 use Rattle.format.specs.Fields.{escapes}
-use Rattle.fields.specs.declared.FieldNumber.{FieldNumber}
-use Rattle.fields.specs.declared.Escape.{Escape}
-use Rattle.fields.specs.declared.FieldStep.{FieldStep}
-use Rattle.fields.specs.declared.FieldLength.{FieldLength}
-
-abbrev pub number_is : Option ℕ → FieldNumber
-number_is none = FieldNumber.Bad
-number_is (some n) = FieldNumber.Number n
+use Rattle.fields.specs.declared.BadEscape.{BadEscape}
+use Rattle.fields.specs.declared.FieldByte.{FieldByte}
 
 -- are there 1 to 12 bytes, the first a zero only where it is alone
 unfoldable pub begins_well : List ℕ → Bool
@@ -20,41 +16,37 @@ begins_well f = not (is_empty f) && not (ltb 12 (length f)) && not (starts_with 
 
 -- the value of digits after those whose value is n; none where another byte is among them
 unfoldable pub digits_from : ℕ → List ℕ → Option ℕ
-digits_from n ds = cond (all digit ds) (some (number_from n ds)) none
-
-abbrev pub escape_is : Option ℕ → Escape
-escape_is none = Escape.Bad
-escape_is (some b) = Escape.Byte b
+digits_from n ds = cond (all digit ds) (Some (number_from n ds)) None
 
 -- what stands at a place: the end, a byte that stands for itself, or a backslash and a letter of a table of escapes
-abbrev pub escaped_at : (ℕ → Option ℕ) → ℕ → List ℕ → FieldStep
-escaped_at table at [] = FieldStep.Bad
-escaped_at table at (b ∷ f) = Option-elim (table b) FieldStep.Bad (λ c. FieldStep.Byte c (at + 2))
+abbrev pub Step : Type 0
+Step = Result (Option FieldByte) BadEscape
 
-unfoldable pub step_in : (ℕ → Option ℕ) → ℕ → List ℕ → FieldStep
-step_in table at [] = FieldStep.End
-step_in table at (b ∷ f) = cond (eqb b backslash) (escaped_at table at f) (FieldStep.Byte b (at + 1))
+abbrev pub no_escape : Step
+no_escape = Err (record {})
 
-abbrev pub step_is : ℕ → List ℕ → FieldStep
+abbrev pub byte_before : ℕ → ℕ → Step
+byte_before next b = Ok (Some (record { value = b; next = next }))
+
+abbrev pub escaped_at : (ℕ → Option ℕ) → ℕ → List ℕ → Step
+escaped_at table at [] = no_escape
+escaped_at table at (b ∷ f) = option_map_or (byte_before (at + 2)) (table b) no_escape
+
+unfoldable pub step_in : (ℕ → Option ℕ) → ℕ → List ℕ → Step
+step_in table at [] = Ok None
+step_in table at (b ∷ f) = cond (eqb b backslash) (escaped_at table at f) (byte_before (at + 1) b)
+
+abbrev pub step_is : ℕ → List ℕ → Step
 step_is = step_in escapes
-
--- the length of what a field stands for, after n bytes
-abbrev pub length_after : ℕ → Option (List ℕ) → FieldLength
-length_after n none = FieldLength.Bad
-length_after n (some x) = FieldLength.Of (n + length x)
-
-abbrev pub length_is : Option (List ℕ) → FieldLength
-length_is none = FieldLength.Bad
-length_is (some x) = FieldLength.Of (length x)
 
 -- the text that a field stands for; no bytes where it stands for none
 abbrev pub text_of : Option (List ℕ) → List ℕ
-text_of none = []
-text_of (some x) = x
+text_of None = []
+text_of (Some x) = x
 
 abbrev pub is_good : Option (List ℕ) → Bool
-is_good none = false
-is_good (some x) = true
+is_good None = false
+is_good (Some x) = true
 
 abbrev pub IsGood : Option (List ℕ) → Type 0
 IsGood o = is_good o ≡ true

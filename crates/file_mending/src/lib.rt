@@ -2,25 +2,11 @@
 // refusal is told by its number; what is printed is run and compared.
 #![tactic(auto)]
 
-use format::{Mending, Replacing};
+use format::MendError;
 use listing::input;
 use std::io;
 use std::io::{Read, Write};
 use values::bytes::part;
-
-fn print_answer<W: Write>(out: &mut W, answer: Replacing, room: &[u8]) -> io::Result<()> {
-    match answer {
-        Replacing::File(length) => out.write_all(part(room, 0, length)),
-        _ => listing::refuse(out, answers::replacing_number(answer)),
-    }
-}
-
-fn print<W: Write>(out: &mut W, answer: Mending, room: &[u8]) -> io::Result<()> {
-    match answer {
-        Mending::BadRequest => out.write_all(b"bad request\n"),
-        Mending::Asked(replaced) => print_answer(out, replaced, room),
-    }
-}
 
 // The new file, which goes to `room`, the line of the refusal, or that the request is bad. More input than `input` holds is refusal 1, after a
 // bad request.
@@ -33,6 +19,9 @@ pub fn mend_file<R: Read, W: Write>(
 ) -> io::Result<()> {
     let n = input::fill(file, input)?;
     let longer = input::has_more(file)?;
-    let answer = mending::mend(&input[..n], longer, text, room);
-    print(out, answer, room)
+    match mending::mend(&input[..n], longer, text, room) {
+        Ok(length) => out.write_all(part(room, 0, length)),
+        Err(MendError::BadRequest) => out.write_all(b"bad request\n"),
+        Err(MendError::Replace(why)) => listing::refuse(out, why),
+    }
 }

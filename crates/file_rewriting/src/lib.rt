@@ -2,7 +2,6 @@
 // is run and compared.
 #![tactic(auto)]
 
-use format::Rewriting;
 use format::rows::{CueRow, RegionRow, StyleRow};
 use listing::input;
 use std::io;
@@ -25,9 +24,8 @@ pub fn rewrite_file<R: Read, W: Write>(
     if listing::refuse_more(file, out)? {
         return Ok(());
     }
-    let answer = rewriting::rewrite(&raw[..n], text, cues, regions, styles, room);
-    let Rewriting::File(length) = answer else {
-        return listing::refuse(out, answers::rewriting_number(answer));
-    };
-    out.write_all(part(room, 0, length))
+    match rewriting::rewrite(&raw[..n], text, cues, regions, styles, room) {
+        Ok(length) => out.write_all(part(room, 0, length)),
+        Err(why) => listing::refuse(out, why),
+    }
 }

@@ -3,7 +3,7 @@ use Prim.Native.Nat.{ℕ}
 use mathlib.Core.Path.{◌≡◌, refl}
 use mathlib.Core.Bool.{false}
 use mathlib.Core.List.{List, [], ◌∷◌}
-use mathlib.Core.Option.{some}
+use Rattle.std.specs.Prelude.{Some}
 use Rattle.format.specs.Bytes.{ascii}
 use Rattle.format.specs.Rows.{cue_words, new_cue_words, region_words, style_words, cue_entry, cue_span, new_cue_name, region_entry, style_entry}
 use Rattle.format.specs.Trees.{Node, parent_word, place_words, node_words}
@@ -17,7 +17,6 @@ use Rattle.format.specs.declared.settings.PositionAlign.TheVariants as PositionA
 use Rattle.format.specs.declared.settings.Align.TheVariants as Align
 use Rattle.format.specs.declared.regions.Scroll.TheVariants as Scroll
 use Rattle.format.specs.declared.regions.Region.{Region}
-use Rattle.format.specs.declared.rows.RegionIndex.TheVariants as RegionIndex
 use Rattle.format.specs.declared.rows.CueEntry.{CueEntry}
 use Rattle.format.specs.declared.rows.LineSpan.{LineSpan}
 
@@ -35,7 +34,7 @@ cue_example =
         size = 90;
         align = Align.Right;
       };
-      region = RegionIndex.At 4;
+      region = Some 4;
     }
 
 abbrev lines_example : LineSpan
@@ -62,7 +61,7 @@ abbrev region_row_example : List ℕ
 region_row_example = 10 ∷ 20 ∷ 30 ∷ 40 ∷ 50 ∷ 60 ∷ 70 ∷ 80 ∷ 1 ∷ []
 
 abbrev node_example : Node
-node_example = record { parent = some 3; kind = NodeKind.Voice; classes = ascii "ab"; value = ascii "cde"; time = 0 }
+node_example = record { parent = Some 3; kind = NodeKind.Voice; classes = ascii "ab"; value = ascii "cde"; time = 0 }
 
 -- each entry is coded as its row, and its row is decoded as it
 pub record RowsHold : Type 0 where

@@ -1,5 +1,6 @@
 -- Answers as document 01 numbers them, and what lent memory holds after one.
 use Rattle.std.specs.Prelude.{ℕ, ◌+◌, Bool, true, cond, List, [], ◌∷◌, ◌++◌, ltb, length, drop, set}
+use Rattle.std.specs.Prelude.{Result, Ok, Err}
 use Rattle.format.specs.Limits.{max_file}
 use Rattle.format.specs.Texts.{has}
 
@@ -27,6 +28,15 @@ refusal_number (refused number vs) = number
 unfoldable pub returned : Answer → List ℕ
 returned (accepted vs) = vs
 returned (refused number vs) = vs
+
+-- what a result answers, by what its value and its error answer
+abbrev pub answered : {V E : Type 0} → (V → Answer) → (E → Answer) → Result V E → Answer
+answered value error (Ok v) = value v
+answered value error (Err e) = error e
+
+-- accepted, with the length of a text or a file that was made
+abbrev pub length_told : ℕ → Answer
+length_told n = accepted (n ∷ [])
 
 -- the next answer where this one accepts
 unfoldable pub and_then : Answer → Answer → Answer

@@ -1,6 +1,6 @@
 -- The contents of lists: what document 01 compares, "by contents, not by places in the text".
 use Rattle.std.specs.Prelude.{ℕ, List, map}
-use Rattle.std.proofs.Math.Option.{Option, none, some}
+use Rattle.std.specs.Prelude.{Option}
 use Rattle.format.specs.Texts.{bytes_at}
 use Rattle.format.specs.RegionSettings.{RegionValues}
 use Rattle.format.specs.Lists.{Cue, Lists, lists}
@@ -9,7 +9,6 @@ use Rattle.format.specs.declared.settings.Settings.{Settings}
 use Rattle.format.specs.declared.regions.RegionSettings.{RegionSettings}
 use Rattle.format.specs.declared.regions.Region.{Region}
 use Rattle.format.specs.declared.rows.CueEntry.{CueEntry}
-use Rattle.format.specs.declared.rows.RegionIndex.{RegionIndex}
 
 -- "a cue's contents are its identifier, times, text and settings (…, the region as an index in the list)"
 pub record CueContents : Type 0 where
@@ -54,10 +53,6 @@ contents l =
     }
 
 -- the contents of entries, whose parts are parts of a text
-unfoldable pub option_of : RegionIndex → Option ℕ
-option_of RegionIndex.None = none
-option_of (RegionIndex.At i) = some i
-
 unfoldable pub cue_of_entry : List ℕ → CueEntry → CueContents
 cue_of_entry s e =
     record {
@@ -66,7 +61,7 @@ cue_of_entry s e =
       end = e.end;
       text = bytes_at s e.text.from e.text.to;
       settings = e.settings;
-      region = option_of e.region;
+      region = e.region;
     }
 
 unfoldable pub region_of_entry : List ℕ → Region → RegionContents

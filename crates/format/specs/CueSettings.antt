@@ -1,6 +1,7 @@
 -- Document 01, "Settings", for cues: the opening values, and each setting as what it changes in the settings read so far.
 use Rattle.std.specs.Prelude.{ℕ, ◌+◌, Bool, true, false, cond, not, ◌||◌, List, eqb, length}
-use Rattle.std.proofs.Math.Option.{Option, none, some, Option-elim}
+use Rattle.std.specs.Prelude.{Option, None, Some}
+use Rattle.std.specs.Option.{option_map_or}
 use Rattle.format.specs.Bytes.{ascii, comma, percent}
 use Rattle.format.specs.Texts.{Part, empty_part, is_empty, same, ends_with, before_first, after_first, has}
 use Rattle.format.specs.Numbers.{percentage, LineNumber, line_number, over_line, is_negative, millionths}
@@ -71,10 +72,10 @@ direction x d = cond (same x (ascii "rl")) Direction.Rl (cond (same x (ascii "lr
 -- `line:x`: the alignment after a comma; the one that is set where there is no comma, and none where it is not one of those named
 unfoldable pub line_align : List ℕ → LineAlign → Option LineAlign
 line_align x a =
-    cond (not (has comma x)) (some a)
-    (cond (same (after_first comma x) (ascii "start")) (some LineAlign.Start)
-    (cond (same (after_first comma x) (ascii "center")) (some LineAlign.Center)
-    (cond (same (after_first comma x) (ascii "end")) (some LineAlign.End) none)))
+    cond (not (has comma x)) (Some a)
+    (cond (same (after_first comma x) (ascii "start")) (Some LineAlign.Start)
+    (cond (same (after_first comma x) (ascii "center")) (Some LineAlign.Center)
+    (cond (same (after_first comma x) (ascii "end")) (Some LineAlign.End) None)))
 
 -- a percentage, which does not snap to lines
 unfoldable pub line_at_percentage : LineAlign → ℕ → Change
@@ -82,13 +83,13 @@ line_at_percentage a n = Change.Line (record { line = Line.At false n; snap = fa
 
 -- a line number, which does
 unfoldable pub line_counted : Option LineNumber → LineAlign → Change
-line_counted none a = Change.Nothing
-line_counted (some n) a =
+line_counted None a = Change.Nothing
+line_counted (Some n) a =
     cond (over_line n) Change.Over (Change.Line (record { line = Line.At (is_negative n) (millionths n.size); snap = true; align = a }))
 
 unfoldable pub line_aligned : List ℕ → Option LineAlign → Change
-line_aligned place none = Change.Nothing
-line_aligned place (some a) = cond (ends_with percent place) (Option-elim (percentage place) Change.Nothing (line_at_percentage a)) (line_counted (line_number place) a)
+line_aligned place None = Change.Nothing
+line_aligned place (Some a) = cond (ends_with percent place) (option_map_or (line_at_percentage a) (percentage place) Change.Nothing) (line_counted (line_number place) a)
 
 unfoldable pub line_change : List ℕ → LineAlign → Change
 line_change x a = line_aligned (before_first comma x) (line_align x a)
@@ -96,15 +97,15 @@ line_change x a = line_aligned (before_first comma x) (line_align x a)
 -- `position:x`
 unfoldable pub position_align : List ℕ → PositionAlign → Option PositionAlign
 position_align x a =
-    cond (not (has comma x)) (some a)
-    (cond (same (after_first comma x) (ascii "line-left")) (some PositionAlign.LineLeft)
-    (cond (same (after_first comma x) (ascii "center")) (some PositionAlign.Center)
-    (cond (same (after_first comma x) (ascii "line-right")) (some PositionAlign.LineRight) none)))
+    cond (not (has comma x)) (Some a)
+    (cond (same (after_first comma x) (ascii "line-left")) (Some PositionAlign.LineLeft)
+    (cond (same (after_first comma x) (ascii "center")) (Some PositionAlign.Center)
+    (cond (same (after_first comma x) (ascii "line-right")) (Some PositionAlign.LineRight) None)))
 
 unfoldable pub position_aligned : Option ℕ → Option PositionAlign → Change
-position_aligned none a = Change.Nothing
-position_aligned (some n) none = Change.Nothing
-position_aligned (some n) (some a) = Change.Position (record { position = Position.At n; align = a })
+position_aligned None a = Change.Nothing
+position_aligned (Some n) None = Change.Nothing
+position_aligned (Some n) (Some a) = Change.Position (record { position = Position.At n; align = a })
 
 unfoldable pub position_change : List ℕ → PositionAlign → Change
 position_change x a = position_aligned (percentage (before_first comma x)) (position_align x a)
@@ -124,7 +125,7 @@ named name x s =
     (cond (same name (ascii "vertical")) (Change.Vertical (direction x s.vertical))
     (cond (same name (ascii "line")) (line_change x s.line.align)
     (cond (same name (ascii "position")) (position_change x s.position.align)
-    (cond (same name (ascii "size")) (Option-elim (percentage x) Change.Nothing Change.Size)
+    (cond (same name (ascii "size")) (option_map_or Change.Size (percentage x) Change.Nothing)
     (cond (same name (ascii "align")) (Change.Align (alignment x s.align)) Change.Nothing)))))
 
 -- one token: nothing where its first colon is missing, first or last

@@ -1,4 +1,5 @@
 -- One cue replaced after another: request Q-11 of document 02, "Two editors, either order". What is quoted without a name is the request's.
+use Rattle.std.specs.Prelude.{Ok}
 use Rattle.std.specs.Prelude.{ℕ, ◌≤◌, ◌≡◌, true, false, not, cond, ◌≢◌, List, [], ◌∷◌, ◌++◌, leb, ltb, length, take}
 use Rattle.format.specs.Limits.{max_file}
 use Rattle.format.specs.Texts.{all}
@@ -13,7 +14,6 @@ use Rattle.format.specs.Contents.{contents}
 use Rattle.format.specs.Answers.{Answer, accepted, refused, and_then, file_answer}
 use Rattle.format.specs.Replacing.{is_there, cue_asked, region_names, new_cue_fails, no_gap, unless_test, new_file, with_cue, replacing_is, replacing, replaced_room}
 use Rattle.format.specs.declared.settings.Span.{Span}
-use Rattle.format.specs.declared.Replacing.TheVariants as Replacing
 
 -- a change: the number of a cue, and the new cue, a row over a text
 pub record Change : Type 0 where
@@ -52,7 +52,7 @@ pub record Leaves (raw : List ℕ) (c : Change) (new : List ℕ) : Type 0 where
   pub room : List ℕ
   pub left : List ℕ
   pub size : ℕ
-  pub answer : replacing_is (Replacing.File size) ≡ replacing raw c.number c.text c.row scratch (length room)
+  pub answer : replacing_is (Ok size) ≡ replacing raw c.number c.text c.row scratch (length room)
   pub holds : left ≡ replaced_room raw c.number c.text c.row scratch room
   pub file : new ≡ take size left
 

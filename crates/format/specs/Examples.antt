@@ -2,7 +2,7 @@
 -- where a time fails. `proofs/Examples.antt` proves that the definitions give each row.
 use Rattle.std.specs.Prelude.{ℕ, ◌*◌, List, [], ◌∷◌, length}
 use Prim.Native.String.{String}
-use Rattle.std.proofs.Math.Option.{Option, none, some}
+use Rattle.std.specs.Prelude.{Option, None, Some}
 use Rattle.format.specs.Bytes.{ascii}
 use Rattle.format.specs.Numbers.{percentage}
 use Rattle.format.specs.Times.{Result, failed, got, Time, only_time, milliseconds}
@@ -51,8 +51,8 @@ time_outcome n (failed f rest) = fails_at (fault_number f) (place_of n rest)
 time_outcome n (got t rest) = gives (milliseconds t)
 
 unfoldable pub percent_outcome : Option ℕ → Outcome
-percent_outcome none = fails
-percent_outcome (some n) = gives n
+percent_outcome None = fails
+percent_outcome (Some n) = gives n
 
 unfoldable pub reads_as : ExampleKind → List ℕ → Outcome
 reads_as a_time s = time_outcome (length s) (only_time s)

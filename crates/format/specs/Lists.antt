@@ -1,7 +1,7 @@
 -- What a block means, and the lists of a plain text: document 01 "Blocks". The numbers are the steps of source document 000, section 6.1;
 -- those that begin with 11 and a full stop are of "collect a WebVTT block".
 use Rattle.std.specs.Prelude.{ℕ, Bool, true, false, cond, ◌&&◌, ◌||◌, List, [], ◌∷◌, length, drop}
-use Rattle.std.proofs.Math.Option.{Option, none, some}
+use Rattle.std.specs.Prelude.{Option, None, Some}
 use Rattle.format.specs.Bytes.{ascii, white}
 use Rattle.format.specs.Texts.{starts_with, all, Part, empty_part}
 use Rattle.format.specs.declared.settings.Settings.{Settings}
@@ -28,8 +28,8 @@ pub data Item : Type 0 where
 
 -- 11.4.1.3, 11.4.1.4: the cue of a timing line with its identifier and the lines after it; "if the timing line fails, the block gives no cue"
 unfoldable pub cue_of : Part → List Line → Option Timing → Item
-cue_of id ls none = nothing
-cue_of id ls (some t) =
+cue_of id ls None = nothing
+cue_of id ls (Some t) =
     cue (record { id = id; start = t.start; end = t.end; settings = t.settings; region = t.region; text = joined ls }) t.over
 
 -- 11.6.1: the region of a REGION block

@@ -1,11 +1,11 @@
 -- Looking up a region by its name (request Q-3 of document 02): "go from the end, stop at the first match and also tell how many records it saw".
 -- `Last` says in other words what is found: the later of two regions with one identifier counts.
+use Rattle.std.specs.Prelude.{Option, None, Some}
 use Rattle.std.specs.Prelude.{ℕ, ◌+◌, ◌<◌, ◌≡◌, false, cond, List, [], ◌∷◌, reverse, length, get_or}
 use Rattle.format.specs.Texts.{same}
 use Rattle.format.specs.Writable.{names_of}
 use Rattle.format.specs.Answers.{Answer, accepted}
 use Rattle.format.specs.declared.RegionFound.{RegionFound}
-use Rattle.format.specs.declared.rows.RegionIndex.{RegionIndex}
 
 -- one record more was seen
 abbrev pub one_more : RegionFound → RegionFound
@@ -13,8 +13,8 @@ one_more f = record { index = f.index; seen = f.seen + 1 }
 
 -- "go from the end, stop at the first match": the name x among identifiers from the last to the first
 unfoldable pub look_up_back : List ℕ → List (List ℕ) → RegionFound
-look_up_back x [] = record { index = RegionIndex.None; seen = 0 }
-look_up_back x (id ∷ ids) = cond (same id x) (record { index = RegionIndex.At (length ids); seen = 1 }) (one_more (look_up_back x ids))
+look_up_back x [] = record { index = None; seen = 0 }
+look_up_back x (id ∷ ids) = cond (same id x) (record { index = Some (length ids); seen = 1 }) (one_more (look_up_back x ids))
 
 -- the same among identifiers in the order of their list
 unfoldable pub look_up : List ℕ → List (List ℕ) → RegionFound
@@ -33,17 +33,17 @@ pub record NoneNamed (x : List ℕ) (ids : List (List ℕ)) (seen : ℕ) : Type 
   pub counted : seen ≡ length ids
 
 -- what is found is the last of its name
-abbrev pub Last : List ℕ → List (List ℕ) → RegionIndex → ℕ → Type 0
-Last x ids RegionIndex.None seen = NoneNamed x ids seen
-Last x ids (RegionIndex.At i) seen = LastAt x ids i seen
+abbrev pub Last : List ℕ → List (List ℕ) → Option ℕ → ℕ → Type 0
+Last x ids None seen = NoneNamed x ids seen
+Last x ids (Some i) seen = LastAt x ids i seen
 
 -- nothing is refused; the values are 1 and the index, or 0 and 0 where no region has the name; and how many records were seen
 unfoldable pub found_is : RegionFound → Answer
 found_is f = accepted (go f.index)
   where
-    go : RegionIndex → List ℕ
-    go RegionIndex.None = 0 ∷ 0 ∷ f.seen ∷ []
-    go (RegionIndex.At i) = 1 ∷ i ∷ f.seen ∷ []
+    go : Option ℕ → List ℕ
+    go None = 0 ∷ 0 ∷ f.seen ∷ []
+    go (Some i) = 1 ∷ i ∷ f.seen ∷ []
 
 -- what looking up a name among rows over a text answers; the name may stand in another text
 unfoldable pub looking_up : List ℕ → List (List ℕ) → List ℕ → Answer

@@ -1,6 +1,6 @@
 -- Numbers as document 01, "Settings", reads them: unbounded, and exact until they are cut to millionths.
 use Rattle.std.specs.Prelude.{ℕ, ◌+◌, ◌-◌, ◌*◌, Bool, true, false, cond, not, ◌&&◌, ◌||◌, List, [], ◌∷◌, ◌++◌, ltb, eqb, take}
-use Rattle.std.proofs.Math.Option.{Option, none, some}
+use Rattle.std.specs.Prelude.{Option, None, Some}
 use Rattle.format.specs.Bytes.{ascii, digit, hyphen, full_stop, percent}
 use Rattle.format.specs.Limits.{max_line}
 use Rattle.format.specs.Texts.{ends_with, without_last, is_empty, all, run, past_run}
@@ -24,9 +24,9 @@ pub record Decimal : Type 0 where
 
 -- "digits", or "digits.digits"
 unfoldable pub decimal_of : List ℕ → List ℕ → Option Decimal
-decimal_of whole [] = cond (is_empty whole) none (some (record { whole = whole; fraction = [] }))
+decimal_of whole [] = cond (is_empty whole) None (Some (record { whole = whole; fraction = [] }))
 decimal_of whole (b ∷ s) =
-    cond (not (is_empty whole) && eqb b full_stop && some_digits s) (some (record { whole = whole; fraction = s })) none
+    cond (not (is_empty whole) && eqb b full_stop && some_digits s) (Some (record { whole = whole; fraction = s })) None
 
 unfoldable pub decimal : List ℕ → Option Decimal
 decimal s = decimal_of (run digit s) (past_run digit s)
@@ -41,12 +41,12 @@ millionths d = number d.whole * 1_000_000 + number (take 6 (d.fraction ++ ascii 
 
 -- "The test against 100 is made on the exact decimal before the cut."
 unfoldable pub up_to100 : Option Decimal → Option ℕ
-up_to100 none = none
-up_to100 (some d) = cond (above 100 d) none (some (millionths d))
+up_to100 None = None
+up_to100 (Some d) = cond (above 100 d) None (Some (millionths d))
 
 -- a WebVTT percentage, in millionths: a decimal and then `%`
 unfoldable pub percentage : List ℕ → Option ℕ
-percentage s = cond (ends_with percent s) (up_to100 (decimal (without_last s))) none
+percentage s = cond (ends_with percent s) (up_to100 (decimal (without_last s))) None
 
 -- a line number: an optional `-` and then a decimal
 pub record LineNumber : Type 0 where
@@ -54,11 +54,11 @@ pub record LineNumber : Type 0 where
   pub size : Decimal
 
 unfoldable pub signed : Bool → Option Decimal → Option LineNumber
-signed minus none = none
-signed minus (some d) = some (record { minus = minus; size = d })
+signed minus None = None
+signed minus (Some d) = Some (record { minus = minus; size = d })
 
 unfoldable pub line_number : List ℕ → Option LineNumber
-line_number [] = none
+line_number [] = None
 line_number (b ∷ s) = cond (eqb b hyphen) (signed true (decimal s)) (signed false (decimal (b ∷ s)))
 
 -- "beyond 999,999 either way"
@@ -71,4 +71,4 @@ is_negative n = n.minus && ltb 0 (millionths n.size)
 
 -- a region's count of lines: digits only
 unfoldable pub line_count : List ℕ → Option ℕ
-line_count s = cond (some_digits s) (some (number s)) none
+line_count s = cond (some_digits s) (Some (number s)) None

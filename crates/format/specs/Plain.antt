@@ -1,7 +1,7 @@
 -- Document 01, "From bytes to plain text": what a raw file's bytes become, and which texts are plain.
 -- Every definition is total, on any list of numbers.
 use Rattle.std.specs.Prelude.{ℕ, zero, suc, pred, Bool, cond, not, ◌&&◌, List, [], ◌∷◌, ◌++◌, ◌≡◌, leb, ltb, eqb, length, take, drop}
-use Rattle.std.proofs.Math.Option.{Option, none, some}
+use Rattle.std.specs.Prelude.{Option, None, Some}
 use Rattle.format.specs.Bytes.{nul, lf, cr, byte_order_mark, replacement}
 use Rattle.format.specs.Texts.{starts_with}
 
@@ -54,8 +54,8 @@ table =
 
 -- what follows a first byte, by the row that has it; a byte that begins no sequence has no row
 unfoldable pub following : List Row → ℕ → Option (List Range)
-following [] b = none
-following (r ∷ rs) b = cond (within r.first b) (some r.rest) (following rs b)
+following [] b = None
+following (r ∷ rs) b = cond (within r.first b) (Some r.rest) (following rs b)
 
 -- how many bytes at the text's start are of these ranges, one after the other
 unfoldable pub fits : List Range → List ℕ → ℕ
@@ -65,8 +65,8 @@ fits (r ∷ rs) (b ∷ s) = cond (within r b) (suc (fits rs s)) 0
 
 -- the length of a sequence whose first byte has this row, before the bytes s; 0 where it is not well-formed
 unfoldable pub sequence_of : Option (List Range) → List ℕ → ℕ
-sequence_of none s = 0
-sequence_of (some rs) s = cond (eqb (fits rs s) (length rs)) (suc (length rs)) 0
+sequence_of None s = 0
+sequence_of (Some rs) s = cond (eqb (fits rs s) (length rs)) (suc (length rs)) 0
 
 -- the length of the well-formed sequence at the text's start; 0 where none stands there
 unfoldable pub sequence : List ℕ → ℕ
@@ -80,8 +80,8 @@ pub record Piece : Type 0 where
 
 -- how many of the bytes s go on with a sequence whose first byte has this row
 unfoldable pub begun_of : Option (List Range) → List ℕ → ℕ
-begun_of none s = 0
-begun_of (some rs) s = fits rs s
+begun_of None s = 0
+begun_of (Some rs) s = fits rs s
 
 -- how many bytes after the first the longest run has that stands at the text's start and could have begun a sequence
 unfoldable pub begun : List ℕ → ℕ

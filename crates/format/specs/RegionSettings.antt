@@ -1,6 +1,7 @@
 -- Document 01, "Settings", for regions: the opening values, each setting, and the region that a cue asks for.
 use Rattle.std.specs.Prelude.{ℕ, ◌+◌, Bool, true, false, cond, ◌||◌, ◌&&◌, List, [], ◌∷◌, ltb}
-use Rattle.std.proofs.Math.Option.{Option, none, some, Option-elim}
+use Rattle.std.specs.Prelude.{Option, None, Some}
+use Rattle.std.specs.Option.{option_map_or}
 use Rattle.format.specs.Bytes.{ascii, comma}
 use Rattle.format.specs.Limits.{max_line}
 use Rattle.format.specs.Texts.{Part, empty_part, is_empty, same, before_first, after_first, has}
@@ -68,26 +69,26 @@ over_region RegionChange.Scroll = false
 
 -- `lines:x`
 unfoldable pub lines_change : Option ℕ → RegionChange
-lines_change none = RegionChange.Nothing
-lines_change (some n) = cond (ltb max_line n) RegionChange.Over (RegionChange.Lines n)
+lines_change None = RegionChange.Nothing
+lines_change (Some n) = cond (ltb max_line n) RegionChange.Over (RegionChange.Lines n)
 
 -- two percentages, parted by the first comma
 unfoldable pub point_of : Option ℕ → Option ℕ → Option Point
-point_of none y = none
-point_of (some x) none = none
-point_of (some x) (some y) = some (record { x = x; y = y })
+point_of None y = None
+point_of (Some x) None = None
+point_of (Some x) (Some y) = Some (record { x = x; y = y })
 
 unfoldable pub point : List ℕ → Option Point
-point x = cond (has comma x) (point_of (percentage (before_first comma x)) (percentage (after_first comma x))) none
+point x = cond (has comma x) (point_of (percentage (before_first comma x)) (percentage (after_first comma x))) None
 
 -- what one setting changes, by its name and the bytes of its value
 unfoldable pub region_named : List ℕ → List ℕ → RegionChange
 region_named name x =
     cond (same name (ascii "id")) RegionChange.Id
-    (cond (same name (ascii "width")) (Option-elim (percentage x) RegionChange.Nothing RegionChange.Width)
+    (cond (same name (ascii "width")) (option_map_or RegionChange.Width (percentage x) RegionChange.Nothing)
     (cond (same name (ascii "lines")) (lines_change (line_count x))
-    (cond (same name (ascii "regionanchor")) (Option-elim (point x) RegionChange.Nothing RegionChange.Anchor)
-    (cond (same name (ascii "viewportanchor")) (Option-elim (point x) RegionChange.Nothing RegionChange.Viewport)
+    (cond (same name (ascii "regionanchor")) (option_map_or RegionChange.Anchor (point x) RegionChange.Nothing)
+    (cond (same name (ascii "viewportanchor")) (option_map_or RegionChange.Viewport (point x) RegionChange.Nothing)
     (cond (same name (ascii "scroll") && same x (ascii "up")) RegionChange.Scroll RegionChange.Nothing)))))
 
 -- what one token changes: nothing where its first colon is missing, first or last
@@ -112,10 +113,10 @@ abbrev pub region_is : RegionValues → Region
 region_is r = record { id = span_is r.id; settings = r.settings }
 
 unfoldable pub later_or : Option ℕ → Option ℕ → Option ℕ
-later_or none o = o
-later_or (some n) o = some n
+later_or None o = o
+later_or (Some n) o = Some n
 
 -- "`region:x` takes the last region whose identifier is x, or none": its index in the list, i being that of the first here
 unfoldable pub last_named : ℕ → List ℕ → List (List ℕ) → Option ℕ
-last_named i x [] = none
-last_named i x (id ∷ ids) = later_or (last_named (i + 1) x ids) (cond (same id x) (some i) none)
+last_named i x [] = None
+last_named i x (id ∷ ids) = later_or (last_named (i + 1) x ids) (cond (same id x) (Some i) None)

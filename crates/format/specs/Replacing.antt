@@ -1,6 +1,7 @@
 -- Document 01, "Replacing one cue": raw lines, a cue's own bytes, the cue asked for, the new file, what replacing answers, and demand 3.
 use Rattle.std.specs.Prelude.{ℕ, ◌+◌, ◌-◌, ◌≤◌, ◌≡◌, Bool, true, false, cond, not, ◌&&◌, ◌||◌, List, [], ◌∷◌, ◌++◌, eqb, ltb, length, get_or, set, take, drop}
-use Rattle.std.proofs.Math.Option.{Option, none, some}
+use Rattle.std.specs.Prelude.{Option, None, Some}
+use Rattle.std.specs.Prelude.{Result}
 use Rattle.format.specs.Bytes.{lf, cr}
 use Rattle.format.specs.Texts.{starts_with, is_empty, bytes_at}
 use Rattle.format.specs.Plain.{plain_text}
@@ -11,12 +12,13 @@ use Rattle.format.specs.Lists.{items, lists, any_over}
 use Rattle.format.specs.LineNumbers.{cue_blocks, first_number, line_spans, LinesMoved}
 use Rattle.format.specs.Rows.{ids, new_cue_entry, new_cue_name}
 use Rattle.format.specs.Contents.{CueContents, Contents, contents, cue_of_entry}
-use Rattle.format.specs.Answers.{Answer, accepted, refused, if_accepted, and_then, file_answer, placed}
-use Rattle.format.specs.Converting.{converting}
-use Rattle.format.specs.Reading.{ReadsAgain}
+use Rattle.format.specs.Answers.{Answer, refused, if_accepted, and_then, file_answer, placed, answered, length_told}
+use Rattle.format.specs.Converting.{convert_error, converting}
+use Rattle.format.specs.Reading.{text_error, ReadsAgain}
+use Rattle.format.specs.Writing.{not_writable, out_error}
 use Rattle.format.specs.Writable.{first_failing, part_plain, cue_test1, cue_tests}
 use Rattle.format.specs.Written.{cue_lines}
-use Rattle.format.specs.declared.Replacing.{Replacing}
+use Rattle.format.specs.declared.errors.ReplaceError.{ReplaceError}
 
 -- a raw line, and what ends it: "Raw lines end at CR LF, at any other CR or LF, or with the file"
 pub record RawLine : Type 0 where
@@ -76,7 +78,7 @@ name_lent t w = bytes_at t (new_cue_name w).from (new_cue_name w).to
 
 -- "its region the file's last with the name lent, or none where that name is empty"
 unfoldable pub region_asked : List (List ℕ) → List ℕ → Option ℕ
-region_asked names name = cond (is_empty name) none (last_named 0 name names)
+region_asked names name = cond (is_empty name) None (last_named 0 name names)
 
 unfoldable pub with_region : Option ℕ → CueContents → CueContents
 with_region r c = record { id = c.id; start = c.start; end = c.end; text = c.text; settings = c.settings; region = r }
@@ -90,8 +92,8 @@ unfoldable pub new_test1 : List ℕ → List ℕ → Bool
 new_test1 t w = cue_test1 t w && part_plain t (new_cue_name w).from (new_cue_name w).to
 
 unfoldable pub is_there : Option ℕ → Bool
-is_there none = false
-is_there (some i) = true
+is_there None = false
+is_there (Some i) = true
 
 unfoldable pub new_test6 : List ℕ → List ℕ → List (List ℕ) → Bool
 new_test6 t w names = is_empty (name_lent t w) || is_there (last_named 0 (name_lent t w) names)
@@ -120,21 +122,20 @@ unfoldable pub no_gap : List ℕ → ℕ → List ℕ → List ℕ → Bool
 no_gap s number t w = not (is_empty (cue_of_entry t (new_cue_entry w)).id) && not (is_empty (line_up_to s number))
 
 -- the number and the values of each case; a new cue that is not writable is of list 2, with the cue number as its index
-unfoldable pub replacing_is : Replacing → Answer
-replacing_is (Replacing.File n) = accepted (n ∷ [])
-replacing_is Replacing.RawTooLong = refused 1 []
-replacing_is (Replacing.ScratchTooShort n) = refused 2 (n ∷ [])
-replacing_is Replacing.NoSignature = refused 4 []
-replacing_is Replacing.OverLimit = refused 5 []
-replacing_is (Replacing.NoSuchCue count) = refused 7 (count ∷ [])
-replacing_is (Replacing.NotWritable number test) = refused 8 (2 ∷ number ∷ test ∷ [])
-replacing_is Replacing.NoGap = refused 9 []
-replacing_is Replacing.FileTooLong = refused 1 []
-replacing_is (Replacing.OutTooShort n) = refused 10 (n ∷ [])
+unfoldable pub replace_error : ReplaceError → Answer
+replace_error (ReplaceError.Convert e) = convert_error e
+replace_error (ReplaceError.Text e) = text_error e
+replace_error (ReplaceError.NoSuchCue count) = refused 7 (count ∷ [])
+replace_error (ReplaceError.NotWritable f) = not_writable f
+replace_error ReplaceError.NoGap = refused 9 []
+replace_error (ReplaceError.Out e) = out_error e
+
+unfoldable pub replacing_is : Result ℕ ReplaceError → Answer
+replacing_is = answered length_told replace_error
 
 unfoldable pub unless_test : Option ℕ → ℕ → Answer → Answer
-unless_test none number answer = answer
-unless_test (some test) number answer = refused 8 (2 ∷ number ∷ test ∷ [])
+unless_test None number answer = answer
+unless_test (Some test) number answer = refused 8 (2 ∷ number ∷ test ∷ [])
 
 -- what replacing answers, after converting: the checks 4, 5, 7, 8, 9, 1 (output), 10 in this order, else the new file's length
 unfoldable pub replacing_text : List ℕ → ℕ → List ℕ → List ℕ → ℕ → Answer

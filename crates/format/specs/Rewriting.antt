@@ -1,26 +1,23 @@
 -- Rewriting a raw file: "It converts, reads, and prints the written form, or only … the library's first refusal".
-use Rattle.std.specs.Prelude.{ℕ, List, [], ◌∷◌, length}
+use Rattle.std.specs.Prelude.{ℕ, List, length}
+use Rattle.std.specs.Prelude.{Result}
 use Rattle.format.specs.Plain.{plain_text}
 use Rattle.format.specs.Lists.{lists}
 use Rattle.format.specs.Contents.{contents}
 use Rattle.format.specs.Written.{written}
 use Rattle.format.specs.Rows.{region_rows, style_rows, stored_cues}
-use Rattle.format.specs.Answers.{Answer, accepted, refused, if_accepted, and_then, placed}
-use Rattle.format.specs.Reading.{reading_raw}
-use Rattle.format.specs.Writing.{writing}
-use Rattle.format.specs.declared.Rewriting.{Rewriting}
+use Rattle.format.specs.Answers.{Answer, if_accepted, and_then, placed, answered, length_told}
+use Rattle.format.specs.Reading.{read_file_error, reading_raw}
+use Rattle.format.specs.Writing.{write_error, writing}
+use Rattle.format.specs.declared.errors.RewriteError.{RewriteError}
 
 -- the number and the values of each case
-unfoldable pub rewriting_is : Rewriting → Answer
-rewriting_is (Rewriting.File n) = accepted (n ∷ [])
-rewriting_is Rewriting.RawTooLong = refused 1 []
-rewriting_is (Rewriting.RoomTooShort n) = refused 2 (n ∷ [])
-rewriting_is Rewriting.NoSignature = refused 4 []
-rewriting_is Rewriting.OverLimit = refused 5 []
-rewriting_is (Rewriting.TablesTooShort cues regions styles) = refused 6 (cues ∷ regions ∷ styles ∷ [])
-rewriting_is (Rewriting.NotWritable list index test) = refused 8 (list ∷ index ∷ test ∷ [])
-rewriting_is Rewriting.FileTooLong = refused 1 []
-rewriting_is (Rewriting.OutTooShort n) = refused 10 (n ∷ [])
+unfoldable pub rewrite_error : RewriteError → Answer
+rewrite_error (RewriteError.Read e) = read_file_error e
+rewrite_error (RewriteError.Write e) = write_error e
+
+unfoldable pub rewriting_is : Result ℕ RewriteError → Answer
+rewriting_is = answered length_told rewrite_error
 
 -- the lengths of the lent room and tables
 pub record Lent : Type 0 where

@@ -1,12 +1,14 @@
 -- The rows of the lent tables: one coding and one decoding of each. No other definition knows a word by its number. Percentages and line
 -- numbers are in millionths, times in milliseconds, parts are from a place up to another.
 use Rattle.std.specs.Prelude.{ℕ, suc, ◌-◌, min, Bool, true, false, cond, ◌&&◌, List, [], ◌∷◌, map, eqb, ltb, get_or}
-use Rattle.std.proofs.Math.Option.{Option, none, some}
+use Rattle.std.specs.Prelude.{Option, None, Some}
 use Rattle.format.specs.Texts.{Part, is_empty}
 use Rattle.format.specs.CueSettings.{span_is}
 use Rattle.format.specs.RegionSettings.{RegionValues, region_is, last_named}
 use Rattle.format.specs.Lists.{Cue, lists}
 use Rattle.format.specs.LineNumbers.{line_spans}
+use Rattle.std.specs.Prelude.{Result, Ok, Err}
+use Rattle.format.specs.declared.codes.Unnamed.{Unnamed}
 use Rattle.format.specs.declared.settings.Span.{Span}
 use Rattle.format.specs.declared.settings.Direction.{Direction}
 use Rattle.format.specs.declared.settings.Line.{Line}
@@ -16,7 +18,6 @@ use Rattle.format.specs.declared.settings.PositionAlign.{PositionAlign}
 use Rattle.format.specs.declared.settings.Align.{Align}
 use Rattle.format.specs.declared.regions.Scroll.{Scroll}
 use Rattle.format.specs.declared.regions.Region.{Region}
-use Rattle.format.specs.declared.rows.RegionIndex.{RegionIndex}
 use Rattle.format.specs.declared.rows.CueEntry.{CueEntry}
 use Rattle.format.specs.declared.rows.LineSpan.{LineSpan}
 
@@ -72,9 +73,9 @@ abbrev pub greatest_word : ℕ
 greatest_word = 18_446_744_073_709_551_615
 
 -- 0 for no region, else its index and one; no list is so long that this would be above the greatest word
-abbrev pub region_word : RegionIndex → ℕ
-region_word RegionIndex.None = 0
-region_word (RegionIndex.At i) = min (suc i) greatest_word
+abbrev pub region_word : Option ℕ → ℕ
+region_word None = 0
+region_word (Some i) = min (suc i) greatest_word
 
 abbrev pub scroll_word : Scroll → ℕ
 scroll_word Scroll.None = 0
@@ -167,14 +168,18 @@ align_of n =
     cond (eqb n 0) Align.Start
     (cond (eqb n 1) Align.Center (cond (eqb n 2) Align.End (cond (eqb n 3) Align.Left Align.Right)))
 
-abbrev pub region_index_of : ℕ → RegionIndex
-region_index_of n = cond (eqb n 0) RegionIndex.None (RegionIndex.At (n - 1))
+abbrev pub region_index_of : ℕ → Option ℕ
+region_index_of n = cond (eqb n 0) None (Some (n - 1))
 
 abbrev pub scroll_of : ℕ → Scroll
 scroll_of n = cond (eqb n 0) Scroll.None Scroll.Up
 
+-- the choice that a word names, of so many; none where it names none
+abbrev pub named : {A : Type 0} → ℕ → (ℕ → A) → ℕ → Result A Unnamed
+named count of n = cond (ltb n count) (Ok (of n)) (Err (record {}))
+
 -- what a cue's row says, but that its region is this one
-abbrev pub cue_entry_with : RegionIndex → List ℕ → CueEntry
+abbrev pub cue_entry_with : Option ℕ → List ℕ → CueEntry
 cue_entry_with region w =
     record {
       id = record { from = word 0 w; to = word 1 w };
@@ -200,7 +205,7 @@ cue_span w = record { first = word 17 w; count = word 18 w }
 
 -- what a new cue's row says: the cue, with no region, and the region's name
 abbrev pub new_cue_entry : List ℕ → CueEntry
-new_cue_entry w = cue_entry_with RegionIndex.None w
+new_cue_entry w = cue_entry_with None w
 
 abbrev pub new_cue_name : List ℕ → Span
 new_cue_name w = record { from = word 16 w; to = word 17 w }
@@ -230,13 +235,9 @@ ids [] = []
 ids (r ∷ rs) = r.id.bytes ∷ ids rs
 
 -- an index, or none, as an entry has it
-abbrev pub index_is : Option ℕ → RegionIndex
-index_is none = RegionIndex.None
-index_is (some i) = RegionIndex.At i
-
 -- the region that a cue asks for by this name, in this list; an empty name asks for none
 unfoldable pub region_for : List RegionValues → Part → Option ℕ
-region_for rs name = cond (is_empty name.bytes) none (last_named 0 name.bytes (ids rs))
+region_for rs name = cond (is_empty name.bytes) None (last_named 0 name.bytes (ids rs))
 
 -- a cue of a file with these regions, as it stands in the table
 unfoldable pub entry_is : List RegionValues → Cue → CueEntry
@@ -247,7 +248,7 @@ entry_is rs c =
       end = c.end;
       text = span_is c.text;
       settings = c.settings;
-      region = index_is (region_for rs c.region);
+      region = (region_for rs c.region);
     }
 
 -- the tables' rows for lists; each cue has its lines, and there are as many of these as cues

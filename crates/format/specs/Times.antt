@@ -1,7 +1,7 @@
 -- Collecting a WebVTT timestamp: the steps of source document 003, by their numbers and in their order. The first step that fails is told, and
 -- where the reading then stands (request Q-5 of document 02).
 use Rattle.std.specs.Prelude.{ℕ, ◌+◌, ◌*◌, Bool, cond, not, ◌||◌, List, [], ◌∷◌, ltb, eqb, length}
-use Rattle.std.proofs.Math.Option.{Option, none, some}
+use Rattle.std.specs.Prelude.{Option, None, Some}
 use Rattle.format.specs.Bytes.{digit, colon, full_stop}
 use Rattle.format.specs.Limits.{max_hours}
 use Rattle.format.specs.Texts.{starts_with, is_empty, run, past_run}
@@ -16,8 +16,8 @@ pub data Result (A : Type 0) : Type 0 where
 
 -- the value, if there is one
 unfoldable pub value : {A : Type 0} → Result A → Option A
-value (failed f s) = none
-value (got a s) = some a
+value (failed f s) = None
+value (got a s) = Some a
 
 unfoldable pub on_got : {A B : Type 0} → Result A → (A → List ℕ → Result B) → Result B
 on_got (failed f s) next = failed f s

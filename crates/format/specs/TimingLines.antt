@@ -1,6 +1,6 @@
 -- A cue's timing line: source document 000, section 6.3, "collect WebVTT cue timings and settings", by its steps.
 use Rattle.std.specs.Prelude.{ℕ, ◌+◌, ◌-◌, Bool, ◌||◌, length}
-use Rattle.std.proofs.Math.Option.{Option}
+use Rattle.std.specs.Prelude.{Option}
 use Rattle.format.specs.Bytes.{white, hyphen, greater}
 use Rattle.format.specs.Texts.{Part, past_run}
 use Rattle.format.specs.Times.{Result, failed, got, value, Step, ◌>>=◌, ◌>>◌, expect, Time, timestamp, milliseconds, over_hours}

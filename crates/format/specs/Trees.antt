@@ -1,7 +1,7 @@
 -- A cue text's nodes: source document 000, section 6.4, "WebVTT cue text parsing rules", as document 01's flat list in order of appearance;
 -- how their strings stand in the lent room and their rows in the lent table, and what such a row says; and what reading a cue text answers.
 use Rattle.std.specs.Prelude.{ℕ, zero, suc, ◌+◌, ◌≤◌, ◌≡◌, Bool, true, false, cond, not, ◌&&◌, ◌||◌, List, [], ◌∷◌, ◌++◌, map, eqb, ltb, length, drop}
-use Rattle.std.proofs.Math.Option.{Option, none, some}
+use Rattle.std.specs.Prelude.{Option, None, Some, Result}
 use Rattle.format.specs.Bytes.{ascii, full_stop}
 use Rattle.format.specs.Limits.{max_text}
 use Rattle.format.specs.Texts.{same, is_empty, bytes_at}
@@ -9,9 +9,10 @@ use Rattle.format.specs.Plain.{first_not_plain}
 use Rattle.format.specs.Times.{value, Time, only_time, milliseconds, over_hours}
 use Rattle.format.specs.CueText.{Token, string_token, start_tag, end_tag, timestamp_tag, parted, cue_tokens}
 use Rattle.format.specs.Rows.{word}
-use Rattle.format.specs.Answers.{Answer, accepted, refused, if_accepted, placed}
+use Rattle.format.specs.Answers.{Answer, accepted, refused, if_accepted, placed, answered}
 use Rattle.format.specs.declared.kinds.NodeKind.{NodeKind}
-use Rattle.format.specs.declared.Tree.{Tree}
+use Rattle.format.specs.declared.TreeSize.{TreeSize}
+use Rattle.format.specs.declared.errors.TreeError.{TreeError}
 
 -- a node: the index of its parent, none where that is the root; its classes in one string; its value, of a string, a voice or a language; a
 -- timestamp's milliseconds
@@ -38,17 +39,17 @@ kind_word NodeKind.Timestamp = 9
 -- the kind of node that goes with a tag's name
 unfoldable pub kind_named : List ℕ → Option NodeKind
 kind_named name =
-    cond (same name (ascii "c")) (some NodeKind.Class)
-    (cond (same name (ascii "i")) (some NodeKind.Italic)
-    (cond (same name (ascii "b")) (some NodeKind.Bold)
-    (cond (same name (ascii "u")) (some NodeKind.Underline)
-    (cond (same name (ascii "ruby")) (some NodeKind.Ruby)
-    (cond (same name (ascii "rt")) (some NodeKind.RubyText)
-    (cond (same name (ascii "v")) (some NodeKind.Voice) (cond (same name (ascii "lang")) (some NodeKind.Language) none)))))))
+    cond (same name (ascii "c")) (Some NodeKind.Class)
+    (cond (same name (ascii "i")) (Some NodeKind.Italic)
+    (cond (same name (ascii "b")) (Some NodeKind.Bold)
+    (cond (same name (ascii "u")) (Some NodeKind.Underline)
+    (cond (same name (ascii "ruby")) (Some NodeKind.Ruby)
+    (cond (same name (ascii "rt")) (Some NodeKind.RubyText)
+    (cond (same name (ascii "v")) (Some NodeKind.Voice) (cond (same name (ascii "lang")) (Some NodeKind.Language) None)))))))
 
 unfoldable pub is_kind : Option NodeKind → NodeKind → Bool
-is_kind none k = false
-is_kind (some j) k = eqb (kind_word j) (kind_word k)
+is_kind None k = false
+is_kind (Some j) k = eqb (kind_word j) (kind_word k)
 
 -- the nodes that are open, current first: the index and the kind of each
 pub record Open : Type 0 where
@@ -56,24 +57,24 @@ pub record Open : Type 0 where
   pub kind : NodeKind
 
 unfoldable pub parent_of : List Open → Option ℕ
-parent_of [] = none
-parent_of (o ∷ path) = some o.index
+parent_of [] = None
+parent_of (o ∷ path) = Some o.index
 
 unfoldable pub kind_of : List Open → Option NodeKind
-kind_of [] = none
-kind_of (o ∷ path) = some o.kind
+kind_of [] = None
+kind_of (o ∷ path) = Some o.kind
 
 -- 9, a start tag: the kind of node that is attached to a current node of this kind; "`rt` opens only directly inside ruby", and any other
 -- name is ignored
 unfoldable pub attached : Option NodeKind → List ℕ → Option NodeKind
-attached current name = cond (is_kind (kind_named name) NodeKind.RubyText && not (is_kind current NodeKind.Ruby)) none (kind_named name)
+attached current name = cond (is_kind (kind_named name) NodeKind.RubyText && not (is_kind current NodeKind.Ruby)) None (kind_named name)
 
 -- 9, an end tag: the nodes that stay open. The current node is left where the name is its own; `</ruby>` in a ruby text leaves both
 unfoldable pub leaving : Option NodeKind → List Open → List Open
 leaving named [] = []
 leaving named (o ∷ path) =
     cond (is_kind named o.kind) path
-    (cond (is_kind named NodeKind.Ruby && is_kind (some o.kind) NodeKind.RubyText) (drop 1 path) (o ∷ path))
+    (cond (is_kind named NodeKind.Ruby && is_kind (Some o.kind) NodeKind.RubyText) (drop 1 path) (o ∷ path))
 
 -- "Classes of a node stand in one string parted by full stops, empty ones left out."
 unfoldable pub class_string : List (List ℕ) → List ℕ
@@ -86,17 +87,17 @@ tag_time text = value (only_time text)
 
 -- the value of a node that a start tag attaches: a voice and a language have the annotation, the others none
 unfoldable pub value_for : NodeKind → List ℕ → List ℕ
-value_for k annotation = cond (is_kind (some k) NodeKind.Voice || is_kind (some k) NodeKind.Language) annotation []
+value_for k annotation = cond (is_kind (Some k) NodeKind.Voice || is_kind (Some k) NodeKind.Language) annotation []
 
 -- the nodes that a token gives: one, or none where it is ignored
 unfoldable pub element : Option ℕ → List ℕ → List ℕ → Option NodeKind → List Node
-element parent classes annotation none = []
-element parent classes annotation (some k) =
+element parent classes annotation None = []
+element parent classes annotation (Some k) =
     record { parent = parent; kind = k; classes = classes; value = value_for k annotation; time = 0 } ∷ []
 
 unfoldable pub stamped : Option ℕ → Option Time → List Node
-stamped parent none = []
-stamped parent (some t) = record { parent = parent; kind = NodeKind.Timestamp; classes = []; value = []; time = milliseconds t } ∷ []
+stamped parent None = []
+stamped parent (Some t) = record { parent = parent; kind = NodeKind.Timestamp; classes = []; value = []; time = milliseconds t } ∷ []
 
 unfoldable pub made : List Open → Token → List Node
 made path (string_token value) = record { parent = parent_of path; kind = NodeKind.String; classes = []; value = value; time = 0 } ∷ []
@@ -106,8 +107,8 @@ made path (timestamp_tag value) = stamped (parent_of path) (tag_time value)
 
 -- the nodes that are open after a token, the node that it gives having this index: "let current be the newly created node object"
 unfoldable pub entering : ℕ → Option NodeKind → List Open → List Open
-entering index none path = path
-entering index (some k) path = record { index = index; kind = k } ∷ path
+entering index None path = path
+entering index (Some k) path = record { index = index; kind = k } ∷ path
 
 unfoldable pub path_after : List Open → ℕ → Token → List Open
 path_after path index (string_token value) = path
@@ -126,8 +127,8 @@ nodes s = nodes_from [] 0 (cue_tokens s)
 
 -- refusal 5: "hours are at most 99,999 … but only where … the whole timestamp tag, reads"
 unfoldable pub time_over : Option Time → Bool
-time_over none = false
-time_over (some t) = over_hours t
+time_over None = false
+time_over (Some t) = over_hours t
 
 unfoldable pub token_over : Token → Bool
 token_over (string_token value) = false
@@ -151,8 +152,8 @@ place_words place (b ∷ s) = place ∷ (place + length (b ∷ s)) ∷ []
 
 -- 0 for the root, else the index and one
 unfoldable pub parent_word : Option ℕ → ℕ
-parent_word none = 0
-parent_word (some i) = suc i
+parent_word None = 0
+parent_word (Some i) = suc i
 
 -- the row of a node whose strings stand at a place: parent, kind, classes from and to, value from and to, milliseconds
 unfoldable pub node_words : ℕ → Node → List ℕ
@@ -167,8 +168,8 @@ node_rows place (n ∷ ns) = node_words place n ∷ node_rows (place + length n.
 
 -- the parent that a word names: none for 0, else the index one below
 unfoldable pub parent_named : ℕ → Option ℕ
-parent_named zero = none
-parent_named (suc i) = some i
+parent_named zero = None
+parent_named (suc i) = Some i
 
 -- the kind of a word, 0 to 9: the inverse of kind_word
 unfoldable pub kind_numbered : ℕ → NodeKind
@@ -193,8 +194,8 @@ node_of_row room w =
 
 -- is this parent the root, or a node before this index
 unfoldable pub parent_before : ℕ → Option ℕ → Bool
-parent_before index none = true
-parent_before index (some i) = ltb i index
+parent_before index None = true
+parent_before index (Some i) = ltb i index
 
 -- is each node's parent the root or a node before it, the first node here having this index
 unfoldable pub parents_first : ℕ → List Node → Bool
@@ -211,13 +212,18 @@ pub record TreeStands (s room : List ℕ) (rows : List (List ℕ)) : Type 0 wher
   pub bound : length room ≤ length s
 
 -- the number and the values of each case: the counts of nodes and of the room's bytes; refusal 2 with the length, 6 with the count
-unfoldable pub tree_is : Tree → Answer
-tree_is (Tree.Nodes count used) = accepted (count ∷ used ∷ [])
-tree_is Tree.TextTooLong = refused 1 []
-tree_is (Tree.TextNotPlainAt i) = refused 3 (i ∷ [])
-tree_is Tree.OverLimit = refused 5 []
-tree_is (Tree.RoomTooShort n) = refused 2 (n ∷ [])
-tree_is (Tree.TableTooShort n) = refused 6 (n ∷ [])
+unfoldable pub tree_error : TreeError → Answer
+tree_error TreeError.TooLong = refused 1 []
+tree_error (TreeError.NotPlainAt i) = refused 3 (i ∷ [])
+tree_error TreeError.OverLimit = refused 5 []
+tree_error (TreeError.RoomTooShort n) = refused 2 (n ∷ [])
+tree_error (TreeError.TableTooShort n) = refused 6 (n ∷ [])
+
+unfoldable pub tree_size_told : TreeSize → Answer
+tree_size_told n = accepted (n.count ∷ n.used ∷ [])
+
+unfoldable pub tree_is : Result TreeSize TreeError → Answer
+tree_is = answered tree_size_told tree_error
 
 -- what reading a cue text answers, with a room of this length and a table of this many rows: the checks 1, 3, 5, 2, 6 in this order
 unfoldable pub treeing : List ℕ → ℕ → ℕ → Answer

@@ -1,6 +1,6 @@
 -- Document 01, "writable": the tests of a cue, a region and a style, in its order, on what rows say that anyone may have written.
 use Rattle.std.specs.Prelude.{ℕ, suc, ◌+◌, ◌*◌, Bool, true, false, cond, not, ◌&&◌, ◌||◌, List, [], ◌∷◌, ◌++◌, map, eqb, leb, ltb, length, get_or}
-use Rattle.std.proofs.Math.Option.{Option, none, some}
+use Rattle.std.specs.Prelude.{Option, None, Some}
 use Rattle.format.specs.Bytes.{lf, white}
 use Rattle.format.specs.Limits.{max_hours, max_line}
 use Rattle.format.specs.Texts.{is_empty, has, all, bytes_at}
@@ -22,8 +22,8 @@ use Rattle.format.specs.declared.regions.Point.{Point}
 
 -- the first test that fails, counted from 1
 unfoldable pub first_failing : ℕ → List Bool → Option ℕ
-first_failing n [] = none
-first_failing n (t ∷ ts) = cond t (first_failing (n + 1) ts) (some n)
+first_failing n [] = None
+first_failing n (t ∷ ts) = cond t (first_failing (n + 1) ts) (Some n)
 
 -- "each part is inside the text and is itself plain, so cuts no character"
 unfoldable pub part_plain : List ℕ → ℕ → ℕ → Bool
@@ -91,16 +91,16 @@ cue_test5 s = line_fits s.line && (position_fits s.position && at_most100 s.size
 
 -- (6): "its region, if any, is in the list, has a non-empty identifier and is the last with it"
 unfoldable pub is_index : Option ℕ → ℕ → Bool
-is_index none i = false
-is_index (some j) i = eqb j i
+is_index None i = false
+is_index (Some j) i = eqb j i
 
 unfoldable pub last_of_its_name : List (List ℕ) → ℕ → Bool
 last_of_its_name names i =
     ltb i (length names) && (not (is_empty (get_or names i [])) && is_index (last_named 0 (get_or names i []) names) i)
 
 unfoldable pub cue_test6 : List (List ℕ) → Option ℕ → Bool
-cue_test6 names none = true
-cue_test6 names (some i) = last_of_its_name names i
+cue_test6 names None = true
+cue_test6 names (Some i) = last_of_its_name names i
 
 -- the tests 2 to 5, which look at what a cue says alone
 unfoldable pub cue_tests : CueContents → List Bool

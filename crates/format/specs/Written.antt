@@ -1,7 +1,7 @@
 -- Document 01, "the one written form": what is written of a time, a number, a setting, a cue, a region, a style, and of whole lists. It is
 -- made of tokens and lines; these are joined at the end.
 use Rattle.std.specs.Prelude.{ℕ, zero, suc, ◌+◌, ◌/◌, ◌%◌, Bool, cond, ◌&&◌, List, [], ◌∷◌, ◌++◌, map, eqb, leb, length, get_or}
-use Rattle.std.proofs.Math.Option.{Option, none, some}
+use Rattle.std.specs.Prelude.{Option, None, Some}
 use Rattle.format.specs.Bytes.{ascii, lf, space, percent, comma, hyphen, full_stop, colon}
 use Rattle.format.specs.Texts.{is_empty}
 use Rattle.format.specs.Lines.{split}
@@ -113,8 +113,8 @@ written_five s =
 
 -- the region by its identifier, in a list of regions
 unfoldable pub written_region_name : List RegionContents → Option ℕ → List (List ℕ)
-written_region_name rs none = []
-written_region_name rs (some i) = setting (ascii "region") (get_or (map (λ r. r.id) rs) i [])
+written_region_name rs None = []
+written_region_name rs (Some i) = setting (ascii "region") (get_or (map (λ r. r.id) rs) i [])
 
 -- "cue settings in the order vertical, line, position, size, align, region"
 unfoldable pub written_settings : List RegionContents → CueContents → List (List ℕ)

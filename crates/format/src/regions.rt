@@ -1,7 +1,6 @@
 // A region's identifier and settings, with the opening ones, and what one setting changes.
 ghost use Rattle.std.specs.Prelude.{◌≡◌};
-ghost use Rattle.format.specs.declared.regions.RegionChange.TheVariants as RegionChange;
-ghost use Rattle.format.specs.RegionSettings.{opening_region, region_after};
+ghost use Rattle.format.specs.RegionSettings.{opening_region, region_after, id_after, over_region};
 
 use super::settings::Span;
 
@@ -73,75 +72,40 @@ impl RegionSettings {
         }
     }
 
-    pub fn with_width(self, width: u64) -> RegionSettings
-        ensures { result ≡ region_after (RegionChange.Width width) self }
+    // The settings after a change.
+    pub fn changed(self, change: RegionChange) -> RegionSettings
+        ensures { result ≡ region_after change self }
     {
-        let anchor = self.anchor;
-        let viewport = self.viewport;
-        let scroll = self.scroll;
-        RegionSettings {
-            width,
-            lines: self.lines,
-            anchor,
-            viewport,
-            scroll,
+        match change {
+            RegionChange::Nothing => self,
+            RegionChange::Over => self,
+            RegionChange::Id => self,
+            RegionChange::Width(width) => RegionSettings { width, ..self },
+            RegionChange::Lines(lines) => RegionSettings { lines, ..self },
+            RegionChange::Anchor(anchor) => RegionSettings { anchor, ..self },
+            RegionChange::Viewport(viewport) => RegionSettings { viewport, ..self },
+            RegionChange::Scroll => RegionSettings {
+                scroll: Scroll::Up,
+                ..self
+            },
         }
     }
+}
 
-    pub fn with_lines(self, lines: u64) -> RegionSettings
-        ensures { result ≡ region_after (RegionChange.Lines lines) self }
+impl RegionChange {
+    pub fn is_over(self) -> bool
+        ensures { result ≡ over_region self }
     {
-        let anchor = self.anchor;
-        let viewport = self.viewport;
-        let scroll = self.scroll;
-        RegionSettings {
-            width: self.width,
-            lines,
-            anchor,
-            viewport,
-            scroll,
-        }
+        matches!(self, RegionChange::Over)
     }
 
-    pub fn with_anchor(self, anchor: Point) -> RegionSettings
-        ensures { result ≡ region_after (RegionChange.Anchor anchor) self }
+    // The identifier after the change, `value` being where the setting's value stands.
+    pub fn id_after(self, value: Span, id: Span) -> Span
+        ensures { result ≡ id_after self value id }
     {
-        let viewport = self.viewport;
-        let scroll = self.scroll;
-        RegionSettings {
-            width: self.width,
-            lines: self.lines,
-            anchor,
-            viewport,
-            scroll,
-        }
-    }
-
-    pub fn with_viewport(self, viewport: Point) -> RegionSettings
-        ensures { result ≡ region_after (RegionChange.Viewport viewport) self }
-    {
-        let anchor = self.anchor;
-        let scroll = self.scroll;
-        RegionSettings {
-            width: self.width,
-            lines: self.lines,
-            anchor,
-            viewport,
-            scroll,
-        }
-    }
-
-    pub fn with_scroll(self) -> RegionSettings
-        ensures { result ≡ region_after RegionChange.Scroll self }
-    {
-        let anchor = self.anchor;
-        let viewport = self.viewport;
-        RegionSettings {
-            width: self.width,
-            lines: self.lines,
-            anchor,
-            viewport,
-            scroll: Scroll::Up,
+        match self {
+            RegionChange::Id => value,
+            _ => id,
         }
     }
 }

@@ -89,13 +89,6 @@ pub const STYLE_FROM: usize = 0;
 
 pub const STYLE_TO: usize = 1;
 
-// A cue's region: its index in the list of regions.
-#[derive(Clone, Copy)]
-pub enum RegionIndex {
-    None,
-    At(u64),
-}
-
 #[derive(Clone, Copy)]
 pub struct CueEntry {
     pub id: Span,
@@ -104,7 +97,8 @@ pub struct CueEntry {
     pub end: u64,
     pub text: Span,
     pub settings: Settings,
-    pub region: RegionIndex,
+    // The region's index in the list of regions.
+    pub region: Option<u64>,
 }
 
 // The lines of a cue in its file: its first line's number, counted from 1, and how many there are.

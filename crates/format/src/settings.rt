@@ -2,7 +2,6 @@
 // changed ones.
 ghost use Rattle.std.specs.Prelude.{◌≡◌, cond, eqb};
 ghost use Rattle.format.specs.CueSettings.{opening_settings, settings_after, name_after, is_over, is_horizontal, no_span};
-ghost use Rattle.format.specs.declared.settings.Change.TheVariants as Cases;
 
 #[derive(Clone, Copy)]
 pub enum Direction {
@@ -133,82 +132,6 @@ impl Settings {
         }
     }
 
-    pub(crate) fn with_vertical(self, vertical: Direction) -> Settings
-        ensures { result ≡ settings_after (Cases.Vertical vertical) self }
-    {
-        let line = self.line;
-        let position = self.position;
-        let align = self.align;
-        Settings {
-            vertical,
-            line,
-            position,
-            size: self.size,
-            align,
-        }
-    }
-
-    pub(crate) fn with_line(self, line: LinePlace) -> Settings
-        ensures { result ≡ settings_after (Cases.Line line) self }
-    {
-        let vertical = self.vertical;
-        let position = self.position;
-        let align = self.align;
-        Settings {
-            vertical,
-            line,
-            position,
-            size: self.size,
-            align,
-        }
-    }
-
-    pub(crate) fn with_position(self, position: PositionPlace) -> Settings
-        ensures { result ≡ settings_after (Cases.Position position) self }
-    {
-        let vertical = self.vertical;
-        let line = self.line;
-        let align = self.align;
-        Settings {
-            vertical,
-            line,
-            position,
-            size: self.size,
-            align,
-        }
-    }
-
-    pub(crate) fn with_size(self, size: u64) -> Settings
-        ensures { result ≡ settings_after (Cases.Size size) self }
-    {
-        let vertical = self.vertical;
-        let line = self.line;
-        let position = self.position;
-        let align = self.align;
-        Settings {
-            vertical,
-            line,
-            position,
-            size,
-            align,
-        }
-    }
-
-    pub(crate) fn with_align(self, align: Align) -> Settings
-        ensures { result ≡ settings_after (Cases.Align align) self }
-    {
-        let vertical = self.vertical;
-        let line = self.line;
-        let position = self.position;
-        Settings {
-            vertical,
-            line,
-            position,
-            size: self.size,
-            align,
-        }
-    }
-
     // The settings after a change.
     pub fn changed(self, change: Change) -> Settings
         ensures { result ≡ settings_after change self }
@@ -217,11 +140,11 @@ impl Settings {
             Change::Nothing => self,
             Change::Over => self,
             Change::Region => self,
-            Change::Vertical(direction) => self.with_vertical(direction),
-            Change::Line(place) => self.with_line(place),
-            Change::Position(place) => self.with_position(place),
-            Change::Size(size) => self.with_size(size),
-            Change::Align(align) => self.with_align(align),
+            Change::Vertical(vertical) => Settings { vertical, ..self },
+            Change::Line(line) => Settings { line, ..self },
+            Change::Position(position) => Settings { position, ..self },
+            Change::Size(size) => Settings { size, ..self },
+            Change::Align(align) => Settings { align, ..self },
         }
     }
 }
@@ -230,16 +153,7 @@ impl Change {
     pub fn is_over(self) -> bool
         ensures { result ≡ is_over self }
     {
-        match self {
-            Change::Nothing => false,
-            Change::Over => true,
-            Change::Region => false,
-            Change::Vertical(_) => false,
-            Change::Line(_) => false,
-            Change::Position(_) => false,
-            Change::Size(_) => false,
-            Change::Align(_) => false,
-        }
+        matches!(self, Change::Over)
     }
 
     // A direction that is vertical clears the region.
@@ -248,8 +162,7 @@ impl Change {
     {
         match direction {
             Direction::Horizontal => name,
-            Direction::Rl => Span::NONE,
-            Direction::Lr => Span::NONE,
+            Direction::Rl | Direction::Lr => Span::NONE,
         }
     }
 
@@ -268,15 +181,12 @@ impl Change {
         ensures { result ≡ name_after no_span self value name }
     {
         match self {
-            Change::Nothing => name,
-            Change::Over => name,
             Change::Region => value,
             Change::Vertical(direction) => Change::name_after_vertical(direction, name),
             // A line clears the region.
             Change::Line(_) => Span::NONE,
-            Change::Position(_) => name,
             Change::Size(size) => Change::name_after_size(size, name),
-            Change::Align(_) => name,
+            _ => name,
         }
     }
 }

@@ -3,9 +3,12 @@ use Prim.Native.Nat.{ℕ}
 use mathlib.Core.Path.{◌≡◌, refl, sym, ap, ◌∙◌}
 use mathlib.Core.Bool.{cond}
 use mathlib.Core.List.{List, [], ◌∷◌, ◌++◌, map, append_assoc, append-nil}
-use mathlib.Core.Option.{none, some}
-use lib.ListN.{get_or}
-use Rattle.format.specs.Contents.{option_of, cue_of_entry, region_of_entry, region_of_row}
+use Rattle.std.specs.Prelude.{Option, None, Some, option_map}
+use native.Mathlib.Omega.{arith}
+use borrow.Author.Tests.{ne_eqb}
+use lib.ListN.{length, get_or}
+use Rattle.std.specs.Bool.{◌==◌}
+use Rattle.format.specs.Contents.{cue_of_entry, region_of_entry, region_of_row}
 use Rattle.format.specs.Bytes.{ascii, lf, colon}
 use Rattle.format.specs.Texts.{is_empty, bytes_at}
 use Rattle.format.specs.Lines.{split, after_line_ends, join}
@@ -13,12 +16,17 @@ use Rattle.format.specs.Writable.{names_of}
 use Rattle.format.specs.Written.{setting, written_region_name, written_settings, written_timing, lines_of, cue_lines, written_id, region_lines}
 use Rattle.format.specs.declared.regions.Region.{Region}
 use Rattle.format.specs.declared.rows.CueEntry.{CueEntry}
-use Rattle.format.specs.declared.rows.RegionIndex.{RegionIndex}
 use Rattle.laws.proofs.Lines.{splits}
 use Rattle.laws.proofs.Standing.{ended_append}
 use Rattle.roundtrip.proofs.Cues.{names_of_lem}
 use Rattle.setting_forms.specs.Settings.{named_region, settings_form}
 use Rattle.forms.specs.Forms.{timing_form, cue_form, number_lines}
+
+-- a text of no bytes is empty
+pub no_bytes : (s : List ℕ) → (length s == 0) ≡ is_empty s
+unfolding is_empty
+no_bytes [] = refl
+no_bytes (b ∷ s) = ne_eqb (length (b ∷ s)) 0 (λ e. omega (arith, e))
 
 -- the lines of a text, and lines after them
 pub ended-split : (s : List ℕ) → after_line_ends (split s) ≡ lf ∷ s
@@ -55,13 +63,10 @@ module _ (s : List ℕ) (regions : List (List ℕ)) (e : CueEntry) where
   abbrev lines : List ℕ
   lines = join (cue_lines (map (region_of_row s) regions) (cue_of_entry s e))
 
-  pub cue_alone : e.region ≡ RegionIndex.None → lines ≡ cue_form s e none
-  unfolding cue_lines cue_of_entry cue_form timing_form settings_form named_region written_timing written_settings written_region_name option_of
-  cue_alone k = rw k
-
-  pub cue_regional : (i : ℕ) → e.region ≡ RegionIndex.At i → lines ≡ cue_form s e (some (get_or (names_of s regions) i []))
-  unfolding cue_lines cue_of_entry cue_form timing_form settings_form named_region written_timing written_settings written_region_name option_of
-  cue_regional i k = rw (k, names_of_lem s regions)
+  pub cue_among : (o : Option ℕ) → e.region ≡ o → lines ≡ cue_form s e (option_map (λ i. get_or (names_of s regions) i []) o)
+  unfolding cue_lines cue_of_entry cue_form timing_form settings_form named_region written_timing written_settings written_region_name
+  cue_among None k = rw k
+  cue_among (Some i) k = rw (k, names_of_lem s regions)
 
 -- a setting on a line of its own
 pub ended-setting : (name value : List ℕ) → after_line_ends (setting name value) ≡ (lf ∷ (name ++ colon ∷ [])) ++ value

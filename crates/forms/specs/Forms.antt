@@ -1,6 +1,6 @@
 -- The written forms as the code is asked for them: of a cue with the name of its region, and of a region's lines.
 use Rattle.std.specs.Prelude.{ℕ, List, ◌∷◌, ◌++◌}
-use Rattle.std.proofs.Math.Option.{Option}
+use Rattle.std.specs.Prelude.{Option}
 use Rattle.format.specs.Texts.{bytes_at}
 use Rattle.format.specs.Bytes.{ascii}
 use Rattle.format.specs.Lines.{join}

@@ -9,6 +9,7 @@ use lib.Dec.{ltb}
 use lib.ListN.{length, take, drop, length-append}
 use lib.Seq.{take-append_seam}
 use borrow.Author.Tests.{ltb-false, le-ltb}
+use Rattle.std.specs.Prelude.{None, Some}
 use Rattle.format.specs.Limits.{max_file, max_text}
 use Rattle.format.specs.Texts.{has, all}
 use Rattle.format.specs.Plain.{plain_text, first_not_plain}
@@ -17,7 +18,6 @@ use Rattle.format.specs.Lists.{items, lists, any_over}
 use Rattle.format.specs.Answers.{Answer, accepted, refused, refused_only_by, if_accepted, and_then, file_answer, placed}
 use Rattle.format.specs.Converting.{converting, converted_room, plainness_is, testing}
 use Rattle.format.specs.Reading.{reading_raw, reading, ReadsAgain}
-use Rattle.format.specs.declared.Plainness.TheVariants as Plainness
 use Rattle.laws.proofs.Tests.{by-test}
 use Rattle.laws.proofs.PlainText.{plain_text-length, plain_text-plain}
 
@@ -73,14 +73,14 @@ converts raw before {n} {room} a e =
     record { fits = reaches s before room n stands h; text = front s before room n stands h }
 
 -- what the test of a text tells
-pub not_plain : (s : List ℕ) (i : ℕ) → plainness_is (Plainness.NotPlainAt i) ≡ testing s → (ltb (first_not_plain s) (length s) ≡ true) × (first_not_plain s ≡ i)
+pub not_plain : (s : List ℕ) (i : ℕ) → plainness_is (Some i) ≡ testing s → (ltb (first_not_plain s) (length s) ≡ true) × (first_not_plain s ≡ i)
 unfolding plainness_is testing
 not_plain s i e =
     by-test (ltb (first_not_plain s) (length s))
     (λ y. let f : refused 3 (i ∷ []) ≡ refused 3 (first_not_plain s ∷ []) = rw y at e in (y, cc))
     (λ n. let f : ◌≡◌ {A = Answer} (refused 3 (i ∷ [])) (accepted []) = rw n at e in let z : ◌≡◌ {A = ℕ} 0 1 = cc in absurd (omega arith))
 
-pub all_plain : (s : List ℕ) → plainness_is Plainness.Plain ≡ testing s → ltb (first_not_plain s) (length s) ≡ false
+pub all_plain : (s : List ℕ) → plainness_is None ≡ testing s → ltb (first_not_plain s) (length s) ≡ false
 unfolding plainness_is testing
 all_plain s e =
     by-test (ltb (first_not_plain s) (length s))

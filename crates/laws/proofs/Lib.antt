@@ -24,6 +24,7 @@ pub mod TagTimes
 pub mod Contents
 pub mod LineNumbers
 pub mod Names
+pub mod NotNames
 pub mod LookingUp
 pub mod Rows
 pub mod Answers

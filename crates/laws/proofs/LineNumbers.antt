@@ -3,7 +3,7 @@ use Prim.Native.Nat.{ℕ, suc, ◌+◌, ◌≤◌}
 use mathlib.Core.Path.{◌≡◌, refl, sym, ap, ◌∙◌}
 use mathlib.Core.Bool.{Bool, true, false, ◌||◌, true≢false}
 use mathlib.Core.List.{List, [], ◌∷◌, ◌++◌, map, append-nil, map-append, map-map}
-use mathlib.Core.Option.{Option, none, some}
+use Rattle.std.specs.Prelude.{Option, None, Some}
 use native.Mathlib.Omega.{arith}
 use lib.ListN.{length, length-append, length-map}
 use Rattle.format.specs.Bytes.{ascii, lf}
@@ -226,8 +226,8 @@ module _ (rs : List RegionContents) (read : List RegionValues) where
       → length (lines_of id.bytes) + suc (length (lines_of (joined ls).bytes)) ≡ n
       → Counted n (cue_of id ls o)
   unfolding cue_of cue_lines cue_contents
-  cue-counted n id ls none e = tt
-  cue-counted n id ls (some t) e = length-append (lines_of id.bytes) _ ∙ e
+  cue-counted n id ls None e = tt
+  cue-counted n id ls (Some t) e = length-append (lines_of id.bytes) _ ∙ e
 
   block-counted : (seen : Bool) (b : List Line) → All Sound b → Counted (length b) (meaning seen b)
   unfolding meaning definition region_of lines_of is_empty

@@ -2,7 +2,7 @@
 use mathlib.Core.Path.{◌≡◌, refl, ap, ◌∙◌}
 use mathlib.Core.Bool.{Bool, true, false, cond, ◌||◌, true≢false}
 use mathlib.Core.List.{List, [], ◌∷◌, ◌++◌}
-use mathlib.Core.Option.{Option, none, some}
+use Rattle.std.specs.Prelude.{Option, None, Some}
 use Rattle.format.specs.Texts.{Part, empty_part}
 use Rattle.format.specs.TimingLines.{Timing, timing_line}
 use Rattle.format.specs.Blocks.{Line, line_part, holds_arrow}
@@ -28,8 +28,8 @@ is_definition (region r over) = true
 
 cue_defines_none : (id : Part) (ls : List Line) (t : Option Timing) → is_definition (cue_of id ls t) ≡ false
 unfolding is_definition cue_of
-cue_defines_none id ls none = refl
-cue_defines_none id ls (some t) = refl
+cue_defines_none id ls None = refl
+cue_defines_none id ls (Some t) = refl
 
 either_none : (t : Bool) (a b : Item) → is_definition a ≡ false → is_definition b ≡ false → is_definition (cond t a b) ≡ false
 either_none true a b p q = p

@@ -2,7 +2,7 @@
 use Prim.Native.Nat.{ℕ, suc, ◌+◌, ◌-◌, ◌≤◌, ◌<◌}
 use mathlib.Core.Path.{◌≡◌, refl, sym, ◌∙◌}
 use mathlib.Core.List.{List, [], ◌∷◌}
-use mathlib.Core.Option.{Option, none, some}
+use Rattle.std.specs.Prelude.{Option, None, Some}
 use native.Mathlib.Omega.{arith}
 use lib.ListN.{length, get_or}
 use Rattle.format.specs.Texts.{same}
@@ -26,21 +26,21 @@ found_here {k} {x} {id} {names} e =
     let z : k - k ≡ 0 = omega arith in
     record { from = omega arith; below = omega arith; named = rw z e }
 
-pub found : (k : ℕ) (x : List ℕ) (names : List (List ℕ)) (i : ℕ) → last_named k x names ≡ some i → Found k x names i
+pub found : (k : ℕ) (x : List ℕ) (names : List (List ℕ)) (i : ℕ) → last_named k x names ≡ Some i → Found k x names i
 unfolding last_named later_or
 found k x [] i e = let z : ◌≡◌ {A = ℕ} 0 1 = cc in absurd (omega arith)
 found k x (id ∷ names) i e = go (found (k + 1) x names) (last_named (k + 1) x names) refl
   where
     go :
-        ((j : ℕ) → last_named (k + 1) x names ≡ some j → Found (k + 1) x names j)
+        ((j : ℕ) → last_named (k + 1) x names ≡ Some j → Found (k + 1) x names j)
         → (o : Option ℕ)
         → last_named (k + 1) x names ≡ o
         → Found k x (id ∷ names) i
-    go later none q =
+    go later None q =
         by-test (same id x)
-        (λ y. let f : some k ≡ some i = rw (q, y) at e in let g : k ≡ i = cc in rw (sym g) (found_here (same-is id x y)))
-        (λ n. let f : ◌≡◌ {A = Option ℕ} none (some i) = rw (q, n) at e in let z : ◌≡◌ {A = ℕ} 0 1 = cc in absurd (omega arith))
-    go later (some j) q =
-        let f : some j ≡ some i = rw q at e in
+        (λ y. let f : Some k ≡ Some i = rw (q, y) at e in let g : k ≡ i = cc in rw (sym g) (found_here (same-is id x y)))
+        (λ n. let f : ◌≡◌ {A = Option ℕ} None (Some i) = rw (q, n) at e in let z : ◌≡◌ {A = ℕ} 0 1 = cc in absurd (omega arith))
+    go later (Some j) q =
+        let f : Some j ≡ Some i = rw q at e in
         let g : j ≡ i = cc in
         found-later (later i (q ∙ f))

@@ -3,7 +3,7 @@ use Prim.Native.Nat.{ℕ, suc, ◌≤◌}
 use mathlib.Core.Path.{◌≡◌, refl, sym, ap, ◌∙◌}
 use mathlib.Core.Bool.{true, false, cond, not, ◌&&◌, false≢true}
 use mathlib.Core.List.{List, [], ◌∷◌, ◌++◌, append_assoc}
-use mathlib.Core.Option.{Option, none, some}
+use Rattle.std.specs.Prelude.{Option, None, Some}
 use native.Mathlib.Omega.{arith}
 use lib.Dec.{leb, eqb}
 use lib.ListN.{length, take, drop, length-append}
@@ -145,5 +145,5 @@ pub begun_through : (b : ℕ) (s : List ℕ) → Through s (begun (b ∷ s))
 begun_through b s = go (following table b) refl
   where
     go : (o : Option (List Range)) → following table b ≡ o → Through s (begun (b ∷ s))
-    go none e = rw (begun-none b s e) (record { first = refl; rest = refl })
-    go (some rs) e = rw (begun_of_lem b s rs e) (fits_through rs s (table-high b rs e))
+    go None e = rw (begun-none b s e) (record { first = refl; rest = refl })
+    go (Some rs) e = rw (begun_of_lem b s rs e) (fits_through rs s (table-high b rs e))

@@ -4,7 +4,7 @@ use Prim.Native.Nat.{ℕ, suc, ◌-◌, ◌≤◌, ◌<◌}
 use mathlib.Core.Path.{◌≡◌, refl, ap, ◌∙◌}
 use mathlib.Core.Bool.{true}
 use mathlib.Core.List.{List, [], ◌∷◌, ◌++◌}
-use mathlib.Core.Option.{Option, none, some}
+use Rattle.std.specs.Prelude.{Option, None, Some}
 use native.Mathlib.Omega.{arith}
 use lib.ListN.{length, take, drop, length-append, length-drop}
 use lib.Seq.{length-take-le}
@@ -88,7 +88,7 @@ module _ (b : ℕ) (s : List ℕ) (q : sequence (b ∷ s) ≡ 0) where
   one_for_all n e =
       piece_broken b s (λ z. omega (arith, sequence-ascii b s (omega arith))) q ∙ ap (λ m. record { more = m; out = replacement }) e
 
-  stray_run : following table b ≡ none → Run b s
+  stray_run : following table b ≡ None → Run b s
   stray_run e =
       record {
         more = 0;
@@ -98,7 +98,7 @@ module _ (b : ℕ) (s : List ℕ) (q : sequence (b ∷ s) ≡ 0) where
         longest = λ l rest w. omega (arith, w, sequence-none b (take 1 s ++ rest) e);
       }
 
-  module _ (rs : List Range) (e : following table b ≡ some rs) where
+  module _ (rs : List Range) (e : following table b ≡ Some rs) where
     not-all : fits rs s ≡ length rs → ⊥
     not-all f = omega (arith, sequence_of_lem b s rs e f)
 
@@ -143,5 +143,5 @@ module _ (b : ℕ) (s : List ℕ) (q : sequence (b ∷ s) ≡ 0) where
   runs = go (following table b) refl
     where
       go : (o : Option (List Range)) → following table b ≡ o → Run b s
-      go none e = stray_run e
-      go (some rs) e = begun-run rs e
+      go None e = stray_run e
+      go (Some rs) e = begun-run rs e

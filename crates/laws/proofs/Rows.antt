@@ -3,7 +3,7 @@ use Prim.Native.Nat.{ℕ, suc, ◌+◌, ◌-◌, ◌≤◌, ◌<◌, min}
 use mathlib.Core.Path.{◌≡◌, refl, ap, ◌∙◌}
 use mathlib.Core.Bool.{Bool, true, false, ◌||◌, ◌&&◌}
 use mathlib.Core.List.{List, [], ◌∷◌, map}
-use mathlib.Core.Option.{Option, none, some}
+use Rattle.std.specs.Prelude.{Option, None, Some}
 use native.Mathlib.Omega.{arith}
 use lib.Dec.{eqb, ltb}
 use lib.ListN.{length, take, drop, length-append}
@@ -17,9 +17,9 @@ use Rattle.format.specs.RegionSettings.{RegionValues, last_named, region_is}
 use Rattle.format.specs.Blocks.{Line as TextLine, lines_at, Collecting, between, header, inside, stops, begin, go_on, collected, ended, next, blocks_from, after_signature, blocks}
 use Rattle.format.specs.Lists.{Cue, Item, nothing, cue, style, region, meaning, is_cue, items_from, items, Lists, into, listed, lists}
 use Rattle.format.specs.Rows.{direction_of, line_of, line_align_of, position_of, position_align_of, align_of, region_index_of, scroll_of, direction_word, line_word, line_number_word, snap_word, line_align_word, position_word, position_number_word, position_align_word, align_word, region_word, scroll_word, greatest_word}
-use Rattle.format.specs.Rows.{word, cue_entry_with, cue_words, region_words, style_words, cue_entry, region_entry, cue_span, region_for, entry_is, ids, index_is, cue_rows, region_rows, style_rows, stored_cues}
+use Rattle.format.specs.Rows.{word, cue_entry_with, cue_words, region_words, style_words, cue_entry, region_entry, cue_span, region_for, entry_is, ids, cue_rows, region_rows, style_rows, stored_cues}
 use Rattle.format.specs.LineNumbers.{line_spans}
-use Rattle.format.specs.Contents.{cue_contents, region_contents, contents, option_of, cue_of_entry, region_of_entry, cue_of_row, region_of_row, style_of_row, contents_of_rows, stored_contents}
+use Rattle.format.specs.Contents.{cue_contents, region_contents, contents, cue_of_entry, region_of_entry, cue_of_row, region_of_row, style_of_row, contents_of_rows, stored_contents}
 use Rattle.laws.proofs.Tests.{by-test}
 use Rattle.laws.proofs.Names.{found}
 use Rattle.laws.proofs.LineNumbers.{spans_length}
@@ -32,7 +32,6 @@ use Rattle.format.specs.declared.settings.PositionAlign.{PositionAlign}
 use Rattle.format.specs.declared.settings.Align.{Align}
 use Rattle.format.specs.declared.regions.Region.{Region}
 use Rattle.format.specs.declared.regions.Scroll.{Scroll}
-use Rattle.format.specs.declared.rows.RegionIndex.{RegionIndex}
 use Rattle.format.specs.declared.rows.CueEntry.{CueEntry}
 use Rattle.format.specs.declared.rows.LineSpan.{LineSpan}
 
@@ -75,7 +74,7 @@ align_coded Align.Left = refl
 align_coded Align.Right = refl
 
 -- a line that a row says is never minus zero
-pub row-signed : (r : RegionIndex) (w : List ℕ) → Signed (cue_entry_with r w).settings.line.line
+pub row-signed : (r : Option ℕ) (w : List ℕ) → Signed (cue_entry_with r w).settings.line.line
 row-signed r w = go (word 7 w) (word 8 w)
   where
     below : (m : ℕ) (b : Bool) → Signed (Line.At (b && ltb 0 m) m)
@@ -86,13 +85,13 @@ row-signed r w = go (word 7 w) (word 8 w)
     go n m = by-test (eqb n 0) (λ y. rw y tt) (λ z. rw z (below m (eqb n 2)))
 
 -- an index that has a word of its own
-abbrev pub Indexed : RegionIndex → Type 0
-Indexed RegionIndex.None = Unit
-Indexed (RegionIndex.At n) = n < greatest_word
+abbrev pub Indexed : Option ℕ → Type 0
+Indexed None = Unit
+Indexed (Some n) = n < greatest_word
 
-region_coded : (i : RegionIndex) → Indexed i → region_index_of (region_word i) ≡ i
-region_coded RegionIndex.None l = refl
-region_coded (RegionIndex.At n) l =
+region_coded : (i : Option ℕ) → Indexed i → region_index_of (region_word i) ≡ i
+region_coded None l = refl
+region_coded (Some n) l =
     let h : min (suc n) greatest_word ≡ suc n = omega arith in
     let q : suc n - 1 ≡ n = omega arith in
     rw (h, ne_eqb (suc n) 0 (λ e. omega arith), q)
@@ -123,16 +122,16 @@ unfolding ids
 ids-length [] = refl
 ids-length (r ∷ rs) = ap suc (ids-length rs)
 
-region_indexed : (rs : List RegionValues) (name : Part) → length rs ≤ greatest_word → Indexed (index_is (region_for rs name))
+region_indexed : (rs : List RegionValues) (name : Part) → length rs ≤ greatest_word → Indexed ((region_for rs name))
 unfolding region_for
 region_indexed rs name l =
     by-test (is_empty name.bytes)
     (λ y. rw y tt)
     (λ n. rw n (go (last_named 0 name.bytes (ids rs)) refl))
   where
-    go : (o : Option ℕ) → last_named 0 name.bytes (ids rs) ≡ o → Indexed (index_is o)
-    go none q = tt
-    go (some i) q = omega (arith, (found 0 name.bytes (ids rs) i q).below, ids-length rs)
+    go : (o : Option ℕ) → last_named 0 name.bytes (ids rs) ≡ o → Indexed (o)
+    go None q = tt
+    go (Some i) q = omega (arith, (found 0 name.bytes (ids rs) i q).below, ids-length rs)
 
 -- the rows that reading makes are read back as their entries
 pub read_inverse :
@@ -210,11 +209,6 @@ stands_bytes s p h = go p.place p.bytes h
     go place [] e = refl
     go place (b ∷ x) e = let n : place + length (b ∷ x) - place ≡ length (b ∷ x) = omega arith in rw n e
 
-pub option_index : (o : Option ℕ) → option_of (index_is o) ≡ o
-unfolding option_of
-option_index none = refl
-option_index (some i) = refl
-
 -- the row of a cue, a region and a style has the contents of what was read
 cue-same :
     (s : List ℕ) (rs : List RegionValues) (c : Cue) (lines : LineSpan)
@@ -224,7 +218,7 @@ cue-same :
 unfolding cue_of_entry entry_is cue_contents
 cue-same s rs c lines k l =
     ap (cue_of_entry s) (read_inverse rs c lines k.line l)
-    ∙ rw (stands_bytes s c.id k.id, stands_bytes s c.text k.text, option_index (region_for rs c.region))
+    ∙ rw (stands_bytes s c.id k.id, stands_bytes s c.text k.text)
 
 region-same : (s : List ℕ) (r : RegionValues) → Stands s r.id → region_of_row s (region_words (region_is r)) ≡ region_contents r
 unfolding region_of_entry region_contents

@@ -4,7 +4,7 @@ use Prim.Native.Nat.{ℕ, suc, ◌≤◌, ◌<◌}
 use mathlib.Core.Path.{◌≡◌, refl, ap}
 use mathlib.Core.Bool.{Bool, true, false, cond, ◌&&◌}
 use mathlib.Core.List.{List, [], ◌∷◌, ◌++◌}
-use mathlib.Core.Option.{Option, none, some}
+use Rattle.std.specs.Prelude.{Option, None, Some}
 use native.Mathlib.Omega.{arith}
 use lib.Dec.{leb, eqb}
 use lib.ListN.{length, take}
@@ -30,21 +30,21 @@ all_rows f (r ∷ rs) = f r.rest && all_rows f rs
 following-all :
     (f : List Range → Bool) (t : List Row) (b : ℕ) (rs : List Range)
     → all_rows f t ≡ true
-    → following t b ≡ some rs
+    → following t b ≡ Some rs
     → f rs ≡ true
 unfolding all_rows following
 following-all f [] b rs h e = cc
 following-all f (r ∷ t) b rs h e =
     by-test (within r.first b)
-    (λ w. let q : some r.rest ≡ some rs = rw w at e in let p : r.rest ≡ rs = cc in rw p at (and_left (f r.rest) (all_rows f t) h))
+    (λ w. let q : Some r.rest ≡ Some rs = rw w at e in let p : r.rest ≡ rs = cc in rw p at (and_left (f r.rest) (all_rows f t) h))
     (λ w. following-all f t b rs (and_right (f r.rest) (all_rows f t) h) (rw w at e))
 
 -- the ranges after a first byte that the table has
-pub table-high : (b : ℕ) (rs : List Range) → following table b ≡ some rs → high rs ≡ true
+pub table-high : (b : ℕ) (rs : List Range) → following table b ≡ Some rs → high rs ≡ true
 unfolding table all_rows high
 table-high b rs e = following-all high table b rs refl e
 
-pub table_nonempty : (b : ℕ) (rs : List Range) → following table b ≡ some rs → nonempty rs ≡ true
+pub table_nonempty : (b : ℕ) (rs : List Range) → following table b ≡ Some rs → nonempty rs ≡ true
 unfolding table all_rows nonempty within
 table_nonempty b rs e = following-all nonempty table b rs refl e
 
@@ -93,8 +93,8 @@ fits-take (r ∷ rs) (b ∷ s) t f = let p = fits-first r rs b s f in rw p.0 (ap
 module _ (b : ℕ) (s t : List ℕ) (same : (rs : List Range) → high rs ≡ true → fits rs s ≡ fits rs t) where
   rows : (o : Option (List Range)) → following table b ≡ o → (sequence_of o s ≡ sequence_of o t) × (begun_of o s ≡ begun_of o t)
   unfolding sequence_of begun_of
-  rows none e = (refl, refl)
-  rows (some rs) e =
+  rows None e = (refl, refl)
+  rows (Some rs) e =
       let f = same rs (table-high b rs e) in
       (ap (λ n. cond (eqb n (length rs)) (suc (length rs)) 0) f, f)
 
@@ -106,30 +106,30 @@ module _ (b : ℕ) (s t : List ℕ) (same : (rs : List Range) → high rs ≡ tr
   unfolding begun
   begun-same = (rows (following table b) refl).1
 
-pub sequence_of_lem : (b : ℕ) (s : List ℕ) (rs : List Range) → following table b ≡ some rs → fits rs s ≡ length rs → sequence (b ∷ s) ≡ suc (length rs)
+pub sequence_of_lem : (b : ℕ) (s : List ℕ) (rs : List Range) → following table b ≡ Some rs → fits rs s ≡ length rs → sequence (b ∷ s) ≡ suc (length rs)
 unfolding sequence sequence_of
 sequence_of_lem b s rs e f = rw (e, eq-eqb (fits rs s) (length rs) f)
 
-pub sequence_broken : (b : ℕ) (s : List ℕ) (rs : List Range) → following table b ≡ some rs → (fits rs s ≡ length rs → ⊥) → sequence (b ∷ s) ≡ 0
+pub sequence_broken : (b : ℕ) (s : List ℕ) (rs : List Range) → following table b ≡ Some rs → (fits rs s ≡ length rs → ⊥) → sequence (b ∷ s) ≡ 0
 unfolding sequence sequence_of
 sequence_broken b s rs e f = rw (e, ne_eqb (fits rs s) (length rs) f)
 
-pub sequence-none : (b : ℕ) (s : List ℕ) → following table b ≡ none → sequence (b ∷ s) ≡ 0
+pub sequence-none : (b : ℕ) (s : List ℕ) → following table b ≡ None → sequence (b ∷ s) ≡ 0
 unfolding sequence sequence_of
 sequence-none b s e = rw e
 
-pub begun_of_lem : (b : ℕ) (s : List ℕ) (rs : List Range) → following table b ≡ some rs → begun (b ∷ s) ≡ fits rs s
+pub begun_of_lem : (b : ℕ) (s : List ℕ) (rs : List Range) → following table b ≡ Some rs → begun (b ∷ s) ≡ fits rs s
 unfolding begun begun_of
 begun_of_lem b s rs e = rw e
 
-pub begun-none : (b : ℕ) (s : List ℕ) → following table b ≡ none → begun (b ∷ s) ≡ 0
+pub begun-none : (b : ℕ) (s : List ℕ) → following table b ≡ None → begun (b ∷ s) ≡ 0
 unfolding begun begun_of
 begun-none b s e = rw e
 
 -- what a well-formed sequence of suc n bytes, b and the first n of s, is made of
 pub record WellFormed (b : ℕ) (s : List ℕ) (n : ℕ) : Type 0 where
   pub rest : List Range
-  pub known : following table b ≡ some rest
+  pub known : following table b ≡ Some rest
   pub high : high rest ≡ true
   pub stands : fits rest s ≡ length rest
   pub size : n ≡ length rest
@@ -138,8 +138,8 @@ pub well_formed : (b : ℕ) (s : List ℕ) (n : ℕ) → sequence (b ∷ s) ≡ 
 well_formed b s n q = go (following table b) refl
   where
     go : (o : Option (List Range)) → following table b ≡ o → WellFormed b s n
-    go none e = absurd (omega (arith, sequence-none b s e))
-    go (some rs) e =
+    go None e = absurd (omega (arith, sequence-none b s e))
+    go (Some rs) e =
         by-test (eqb (fits rs s) (length rs))
         (λ f. let g = eqb-true (fits rs s) (length rs) f in
         record { rest = rs; known = e; high = table-high b rs e; stands = g; size = omega (arith, sequence_of_lem b s rs e g) })
@@ -154,8 +154,8 @@ pub begun-length : (b : ℕ) (s : List ℕ) → begun (b ∷ s) ≤ length s
 begun-length b s = go (following table b) refl
   where
     go : (o : Option (List Range)) → following table b ≡ o → begun (b ∷ s) ≤ length s
-    go none e = omega (arith, begun-none b s e)
-    go (some rs) e = omega (arith, begun_of_lem b s rs e, fits-length rs s)
+    go None e = omega (arith, begun-none b s e)
+    go (Some rs) e = omega (arith, begun_of_lem b s rs e, fits-length rs s)
 
 pub sequence-length : (b : ℕ) (s : List ℕ) (n : ℕ) → sequence (b ∷ s) ≡ suc n → n ≤ length s
 sequence-length b s n q = omega (arith, begun-length b s, sequence-begun b s n q)

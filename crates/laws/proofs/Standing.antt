@@ -3,7 +3,8 @@ use Prim.Native.Nat.{ℕ, suc, ◌+◌, ◌-◌, ◌<◌}
 use mathlib.Core.Path.{◌≡◌, refl, sym, ap, subst, ◌∙◌}
 use mathlib.Core.Bool.{Bool, true, false, cond, ◌||◌, ◌&&◌, false≢true}
 use mathlib.Core.List.{List, [], ◌∷◌, ◌++◌, append_assoc}
-use mathlib.Core.Option.{Option, none, some, Option-elim}
+use Rattle.std.specs.Prelude.{Option, None, Some}
+use Rattle.std.specs.Option.{option_map_or}
 use native.Mathlib.Omega.{arith}
 use lib.Dec.{ltb}
 use lib.ListN.{length, take, drop, length-append, length-drop}
@@ -80,9 +81,9 @@ either P true p q = p
 either P false p q = q
 
 -- a value that may be missing
-pub by_option : {A : Type 0} (P : Option A → Type 0) (o : Option A) → P none → ((a : A) → P (some a)) → P o
-by_option P none n s = n
-by_option P (some a) n s = s a
+pub by_option : {A : Type 0} (P : Option A → Type 0) (o : Option A) → P None → ((a : A) → P (Some a)) → P o
+by_option P None n s = n
+by_option P (Some a) n s = s a
 
 -- where a text begins with a token, that token stands at the text's place
 First : ℕ → List Part → Type 0
@@ -183,21 +184,21 @@ SignedChange (Change.Size n) = Unit
 SignedChange (Change.Align a) = Unit
 
 line_changed : (place : List ℕ) (a : Option LineAlign) → SignedChange (line_aligned place a)
-unfolding SignedChange line_aligned line_at_percentage line_counted Option-elim
-line_changed place none = tt
-line_changed place (some a) =
+unfolding SignedChange line_aligned line_at_percentage line_counted
+line_changed place None = tt
+line_changed place (Some a) =
     either SignedChange (ends_with percent place)
-    (by_option (λ n. SignedChange (Option-elim n Change.Nothing (line_at_percentage a))) (percentage place) tt (λ n. tt))
+    (by_option (λ n. SignedChange (option_map_or (line_at_percentage a) n Change.Nothing)) (percentage place) tt (λ n. tt))
     (by_option (λ n. SignedChange (line_counted n a)) (line_number place) tt (λ n. either SignedChange (over_line n) tt (line_signed n)))
 
 position_changed : (n : Option ℕ) (a : Option PositionAlign) → SignedChange (position_aligned n a)
 unfolding SignedChange position_aligned
-position_changed none a = tt
-position_changed (some n) none = tt
-position_changed (some n) (some a) = tt
+position_changed None a = tt
+position_changed (Some n) None = tt
+position_changed (Some n) (Some a) = tt
 
 change_signed : (t : Part) (s : Settings) → SignedChange (cue_change t s)
-unfolding SignedChange cue_change named line_change position_change Option-elim
+unfolding SignedChange cue_change named line_change position_change
 change_signed t s =
     let name = name_of t in
     let x = (value_of t).bytes in
@@ -207,7 +208,7 @@ change_signed t s =
     (either SignedChange (same name (ascii "vertical")) tt
     (either SignedChange (same name (ascii "line")) (line_changed n (line_align x s.line.align))
     (either SignedChange (same name (ascii "position")) (position_changed (percentage n) (position_align x s.position.align))
-    (either SignedChange (same name (ascii "size")) (by_option (λ n. SignedChange (Option-elim n Change.Nothing Change.Size)) (percentage x) tt (λ n. tt))
+    (either SignedChange (same name (ascii "size")) (by_option (λ n. SignedChange (option_map_or Change.Size n Change.Nothing)) (percentage x) tt (λ n. tt))
     (either SignedChange (same name (ascii "align")) tt tt))))))
 
 changed-signed : (h : Change) (s : Settings) → SignedChange h → Signed s.line.line → Signed (settings_after h s).line.line
@@ -229,7 +230,7 @@ settings-signed s (t ∷ ts) h =
     settings-signed (record { value = r.value; over = s.over || r.over }) ts
     (changed-signed (cue_change t s.value.settings) s.value.settings (change_signed t s.value.settings) h)
 
-timing_signed : (line : Part) (t : Timing) (r : Result Times) → value (timing_of line r) ≡ some t → Signed t.settings.line.line
+timing_signed : (line : Part) (t : Timing) (r : Result Times) → value (timing_of line r) ≡ Some t → Signed t.settings.line.line
 unfolding value timing_of with_settings cue_settings
 timing_signed line t (failed f rest) e = let z : ◌≡◌ {A = ℕ} 0 1 = cc in absurd (omega arith)
 timing_signed line t (got x rest) e =
@@ -261,7 +262,7 @@ timing_of_lem :
     (P : TimeFault → Type 0) (s : List ℕ) (line : Part) (t : Timing) (r : Result Times)
     → Leaves P line.bytes r
     → Stands s line
-    → value (timing_of line r) ≡ some t
+    → value (timing_of line r) ≡ Some t
     → Stands s t.region
 unfolding value timing_of with_settings
 timing_of_lem P s line t (failed f rest) k h e = let z : ◌≡◌ {A = ℕ} 0 1 = cc in absurd (omega arith)
@@ -274,7 +275,7 @@ timing_of_lem P s line t (got x rest) k h e =
     let f : with_settings x (cue_settings left) ≡ t = cc in
     subst (λ u. Stands s u.region) f settled
 
-pub stands_timing : (s : List ℕ) (line : Part) (t : Timing) → Stands s line → timing_line line ≡ some t → Stands s t.region
+pub stands_timing : (s : List ℕ) (line : Part) (t : Timing) → Stands s line → timing_line line ≡ Some t → Stands s t.region
 unfolding timing_line timed_line
 stands_timing s line t h e = timing_of_lem _ s line t (timings line.bytes) (timing_steps.at line.bytes) h e
 
@@ -402,8 +403,8 @@ module _ (s : List ℕ) where
       → Follow s ls
       → ItemStands (cue_of id ls o)
   unfolding cue_of timing_line timed_line
-  cue_stands id line ls none e i l h = tt
-  cue_stands id line ls (some t) e i l h =
+  cue_stands id line ls None e i l h = tt
+  cue_stands id line ls (Some t) e i l h =
       record { id = i; text = follow_joined ls h; region = stands_timing s line t l e; line = timing_signed line t (timings line.bytes) e }
 
   meaning_stands : (seen : Bool) (b : List Line) → Follow s b → ItemStands (meaning seen b)

@@ -3,7 +3,7 @@
 use Prim.Native.Nat.{ℕ, ◌+◌, ◌-◌}
 use mathlib.Core.Bool.{Bool, cond, not, ◌||◌}
 use mathlib.Core.List.{List, [], ◌∷◌}
-use mathlib.Core.Option.{Option, none, some}
+use Rattle.std.specs.Prelude.{Option, None, Some}
 use lib.Dec.{eqb}
 use lib.ListN.{length}
 use Rattle.format.specs.Bytes.{digit, white, colon, full_stop, hyphen, greater}
@@ -111,18 +111,18 @@ timings = do
   got (record { start = start; end = end })
 
 unfoldable pub timing_of : Part → Result Times → Option Timing
-timing_of line failed = none
+timing_of line failed = None
 timing_of line (got t rest) =
-    some (with_settings t (cue_settings (record { place = line.place + (length line.bytes - length rest); bytes = rest })))
+    Some (with_settings t (cue_settings (record { place = line.place + (length line.bytes - length rest); bytes = rest })))
 
 unfoldable pub timing_line : Part → Option Timing
 timing_line line = timing_of line (timings line.bytes)
 
 -- "A timestamp tag must be a time and nothing else."
 unfoldable pub nothing_after : Result Time → Option Time
-nothing_after failed = none
-nothing_after (got t []) = some t
-nothing_after (got t (b ∷ s)) = none
+nothing_after failed = None
+nothing_after (got t []) = Some t
+nothing_after (got t (b ∷ s)) = None
 
 unfoldable pub tag_time : List ℕ → Option Time
 tag_time value = nothing_after (timestamp value)

@@ -1,6 +1,4 @@
 // The lines of the cues.
-ghost use Rattle.std.specs.Prelude.{◌<◌, length};
-
 use super::printing;
 use format::rows::*;
 use std::io;
@@ -8,7 +6,7 @@ use std::io::Write;
 
 // Auto, or a number with its sign: a line's where the line snaps to lines, else a percentage. Code 1 has no sign, so its word is empty.
 fn print_line<W: Write>(out: &mut W, code: u64, millionths: u64, snap: u64) -> io::Result<()> {
-    printing::choice(out, b"auto,,-,", code)?;
+    printing::choice(out, &[b"auto", b"", b"-"], code)?;
     if code == 0 {
         return Ok(());
     }
@@ -27,25 +25,32 @@ fn print_position<W: Write>(out: &mut W, code: u64, millionths: u64) -> io::Resu
 }
 
 fn print_settings<W: Write>(out: &mut W, row: CueRow) -> io::Result<()> {
-    printing::choice(out, b"horizontal,rl,lr,", row[CUE_VERTICAL])?;
+    printing::choice(out, &[b"horizontal", b"rl", b"lr"], row[CUE_VERTICAL])?;
     print_line(out, row[CUE_LINE], row[CUE_LINE_NUMBER], row[CUE_SNAP])?;
-    printing::choice(out, b"start,center,end,", row[CUE_LINE_ALIGN])?;
+    printing::choice(out, &[b"start", b"center", b"end"], row[CUE_LINE_ALIGN])?;
     print_position(out, row[CUE_POSITION], row[CUE_POSITION_NUMBER])?;
     printing::choice(
         out,
-        b"auto,line-left,center,line-right,",
+        &[b"auto", b"line-left", b"center", b"line-right"],
         row[CUE_POSITION_ALIGN],
     )?;
     printing::percentage(out, row[CUE_SIZE])?;
-    printing::choice(out, b"start,center,end,left,right,", row[CUE_ALIGN])?;
+    printing::choice(
+        out,
+        &[b"start", b"center", b"end", b"left", b"right"],
+        row[CUE_ALIGN],
+    )?;
     printing::index(out, row[CUE_REGION], b"\tnone")
 }
 
-// The cue with this number.
-fn print_cue<W: Write>(out: &mut W, text: &[u8], cues: &[CueRow], number: usize) -> io::Result<()>
-    requires { number < length cues.now }
-{
-    let row = cues[number];
+// The cue with this number, which has this row.
+fn print_cue<W: Write>(
+    out: &mut W,
+    text: &[u8],
+    cues: &[CueRow],
+    number: usize,
+    row: CueRow,
+) -> io::Result<()> {
     printing::print(out, b"cue")?;
     printing::number(out, number as u64)?;
     printing::number(out, row[CUE_START])?;
@@ -65,9 +70,10 @@ pub(crate) fn print_all<W: Write>(
     cues: &[CueRow],
     count: usize,
 ) -> io::Result<()> {
-    let end = values::least(count, cues.len());
-    for i in 0..end {
-        print_cue(out, text, cues, i)?;
-    }
-    Ok(())
+    printing::rows(
+        out,
+        cues,
+        count,
+        |out, number, row| print_cue(out, text, cues, number, row),
+    )
 }

@@ -1,18 +1,20 @@
 // Prints what a player would read of a raw file: its styles, regions and cues, a line each, or the refusal.
 #![tactic(auto)]
 
-ghost use Rattle.std.specs.Prelude.{◌≡◌, IfOk, IfSome, OnErr, length, nat_lt};
+ghost use Rattle.std.specs.Prelude.{◌≡◌, [], IfOk, IfSome, OnErr, length, nat_lt};
 ghost use Rattle.format.specs.Plain.{plain_text};
 ghost use Rattle.format.specs.Lists.{lists};
 ghost use Rattle.format.specs.Rows.{region_rows, style_rows, stored_cues};
-ghost use Rattle.format.specs.Answers.{refusal_number};
+ghost use Rattle.format.specs.Answers.{accepted, answered, refusal_number};
 ghost use Rattle.format.specs.Converting.{converted_room};
-ghost use Rattle.format.specs.Reading.{reading, reading_raw, after_reading};
+ghost use Rattle.format.specs.Reading.{read_file_error, reading_raw, after_reading};
 
+use answers::Told;
 use format::rows::{CueRow, RegionRow, StyleRow};
-use format::{Converted, Reading};
+use format::{ConvertError, ReadFileError};
 use std::io;
 use std::io::{Read, Write};
+use values::bytes::part;
 
 mod cue_lines;
 pub mod files;
@@ -23,11 +25,9 @@ mod region_lines;
 mod style_lines;
 pub mod trees;
 
-// The line of a refusal; none for 0, which is no refusal's number.
-pub fn refuse<W: Write>(out: &mut W, number: u64) -> io::Result<()> {
-    if number == 0 {
-        return Ok(());
-    }
+// The line of a refusal.
+pub fn refuse<W: Write, E: Told>(out: &mut W, error: E) -> io::Result<()> {
+    let number = answers::number(error);
     printing::print(out, b"refused")?;
     printing::number(out, number)?;
     printing::print(out, b"\n")
@@ -40,42 +40,12 @@ pub fn refuse_more<R: Read, W: Write>(file: &mut R, out: &mut W) -> io::Result<b
     if !input::has_more(file)? {
         return Ok(false);
     }
-    refuse(out, 1)?;
+    refuse(out, ConvertError::TooLong)?;
     Ok(true)
 }
 
-// Prints the lines of a plain text. Hands back the number of a refusal to read, for which nothing is printed, and 0 where there is none.
-#[tactic(auto, unfolding(format::specs::Answers::refusal_number, format::specs::Reading::reading_is))]
-fn show_text<W: Write>(
-    out: &mut W,
-    text: &[u8],
-    cues: &mut [CueRow],
-    regions: &mut [RegionRow],
-    styles: &mut [StyleRow],
-) -> io::Result<u64>
-    ensures number { IfOk result (λ n. n ≡ refusal_number (reading text.now (length cues.old) (length regions.old) (length styles.old))) }
-    ensures err { OnErr result (refusal_number (reading text.now (length cues.old) (length regions.old) (length styles.old)) ≡ 0) }
-    ensures cues { cues.new ≡ after_reading (reading text.now (length cues.old) (length regions.old) (length styles.old)) (stored_cues text.now) cues.old }
-    ensures regions { regions.new ≡ after_reading (reading text.now (length cues.old) (length regions.old) (length styles.old)) (region_rows (lists text.now).regions) regions.old }
-    ensures styles { styles.new ≡ after_reading (reading text.now (length cues.old) (length regions.old) (length styles.old)) (style_rows (lists text.now).styles) styles.old }
-{
-    let answer = reader::read(text, cues, regions, styles);
-    let Reading::Lists {
-        cues: c,
-        regions: r,
-        styles: s,
-    } = answer
-    else {
-        return Ok(answers::reading_number(answer));
-    };
-    style_lines::print_all(out, text, styles, s)?;
-    region_lines::print_all(out, text, regions, r)?;
-    cue_lines::print_all(out, text, cues, c)?;
-    Ok(0)
-}
-
-// Prints the lines of a raw file. Its plain text goes to `text`, and the lists to the tables. Hands back the number of the first refusal of
-// converting and reading, for which nothing is printed, and 0 where there is none.
+// Prints the lines of a raw file. Its plain text goes to `text`, and the lists to the tables. Where converting and reading refuse, nothing is
+// printed, and why is handed back.
 pub(crate) fn show<W: Write>(
     out: &mut W,
     raw: &[u8],
@@ -83,18 +53,24 @@ pub(crate) fn show<W: Write>(
     cues: &mut [CueRow],
     regions: &mut [RegionRow],
     styles: &mut [StyleRow],
-) -> io::Result<u64>
-    ensures number { IfOk result (λ n. n ≡ refusal_number (reading_raw raw.now (length text.old) (length cues.old) (length regions.old) (length styles.old))) }
+) -> io::Result<Result<(), ReadFileError>>
+    ensures number { IfOk result (λ shown. refusal_number (answered (λ _. accepted []) read_file_error shown) ≡ refusal_number (reading_raw raw.now (length text.old) (length cues.old) (length regions.old) (length styles.old))) }
     ensures err { OnErr result (refusal_number (reading_raw raw.now (length text.old) (length cues.old) (length regions.old) (length styles.old)) ≡ 0) }
     ensures text { text.new ≡ converted_room raw.now text.old }
     ensures cues { cues.new ≡ after_reading (reading_raw raw.now (length text.old) (length cues.old) (length regions.old) (length styles.old)) (stored_cues (plain_text raw.now)) cues.old }
     ensures regions { regions.new ≡ after_reading (reading_raw raw.now (length text.old) (length cues.old) (length regions.old) (length styles.old)) (region_rows (lists (plain_text raw.now)).regions) regions.old }
     ensures styles { styles.new ≡ after_reading (reading_raw raw.now (length text.old) (length cues.old) (length regions.old) (length styles.old)) (style_rows (lists (plain_text raw.now)).styles) styles.old }
 {
-    match plain::convert(raw, text) {
-        Converted::Text(n) => show_text(out, &text[..n], cues, regions, styles),
-        Converted::TooLong => Ok(1),
-        Converted::RoomTooShort(_) => Ok(2),
+    match reader::read_file(raw, text, cues, regions, styles) {
+        Ok(lists) => {
+            let shown = part(text, 0, lists.text);
+            let counts = lists.counts;
+            style_lines::print_all(out, shown, styles, counts.styles)?;
+            region_lines::print_all(out, shown, regions, counts.regions)?;
+            cue_lines::print_all(out, shown, cues, counts.cues)?;
+            Ok(Ok(()))
+        }
+        Err(why) => Ok(Err(why)),
     }
 }
 
@@ -112,6 +88,8 @@ pub fn show_file<R: Read, W: Write>(
     if refuse_more(file, out)? {
         return Ok(());
     }
-    let number = show(out, &raw[..n], text, cues, regions, styles)?;
-    refuse(out, number)
+    match show(out, &raw[..n], text, cues, regions, styles)? {
+        Ok(()) => Ok(()),
+        Err(why) => refuse(out, why),
+    }
 }

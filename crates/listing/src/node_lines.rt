@@ -21,7 +21,18 @@ fn print_row<W: Write>(out: &mut W, room: &[u8], number: usize, row: NodeRow) ->
     printing::digits(out, number as u64)?;
     printing::choice(
         out,
-        b"class,italic,bold,underline,ruby,ruby-text,voice,language,string,timestamp,",
+        &[
+            b"class",
+            b"italic",
+            b"bold",
+            b"underline",
+            b"ruby",
+            b"ruby-text",
+            b"voice",
+            b"language",
+            b"string",
+            b"timestamp",
+        ],
         row[NODE_KIND],
     )?;
     printing::index(out, row[NODE_PARENT], b"\t-")?;
@@ -37,9 +48,10 @@ pub(crate) fn print_all<W: Write>(
     nodes: &[NodeRow],
     count: usize,
 ) -> io::Result<()> {
-    let end = values::least(count, nodes.len());
-    for i in 0..end {
-        print_row(out, room, i, nodes[i])?;
-    }
-    Ok(())
+    printing::rows(
+        out,
+        nodes,
+        count,
+        |out, number, row| print_row(out, room, number, row),
+    )
 }

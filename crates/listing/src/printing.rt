@@ -23,17 +23,15 @@ pub fn number<W: Write>(out: &mut W, n: u64) -> io::Result<()> {
 pub(crate) fn decimal<W: Write>(out: &mut W, millionths: u64) -> io::Result<()> {
     digits(out, millionths / ONE)?;
     let mut rest = millionths % ONE;
-    let mut unit = ONE / 10;
     if 0 < rest {
         print(out, b".")?;
     }
-    while 0 < unit {
+    for unit in [100_000, 10_000, 1_000, 100, 10, 1] {
         if rest == 0 {
             return Ok(());
         }
         digits(out, rest / unit)?;
         rest %= unit;
-        unit /= 10;
     }
     Ok(())
 }
@@ -45,13 +43,13 @@ pub fn percentage<W: Write>(out: &mut W, millionths: u64) -> io::Result<()> {
     print(out, b"%")
 }
 
-// The letter that stands for a byte after a backslash; 0 where the byte stands for itself.
-fn letter_of(b: u8) -> u8 {
+// The letter that stands for a byte after a backslash; none where the byte stands for itself.
+fn letter_of(b: u8) -> Option<u8> {
     match b {
-        b'\\' => b'\\',
-        b'\t' => b't',
-        b'\n' => b'n',
-        _ => 0,
+        b'\\' => Some(b'\\'),
+        b'\t' => Some(b't'),
+        b'\n' => Some(b'n'),
+        _ => None,
     }
 }
 
@@ -59,9 +57,8 @@ fn letter_of(b: u8) -> u8 {
 pub(crate) fn field<W: Write>(out: &mut W, bytes: &[u8]) -> io::Result<()> {
     print(out, b"\t")?;
     let mut start = 0;
-    for i in 0..bytes.len() {
-        let letter = letter_of(bytes[i]);
-        if 0 < letter {
+    for (i, &b) in bytes.iter().enumerate() {
+        if let Some(letter) = letter_of(b) {
             print(out, &bytes[start..i])?;
             print(out, &[b'\\', letter])?;
             start = i + 1;
@@ -72,37 +69,42 @@ pub(crate) fn field<W: Write>(out: &mut W, bytes: &[u8]) -> io::Result<()> {
 
 // A part of the text, as a field.
 pub fn part<W: Write>(out: &mut W, text: &[u8], from: u64, to: u64) -> io::Result<()> {
-    let end = values::least(to as usize, text.len());
-    let start = values::least(from as usize, end);
-    field(out, &text[start..end])
+    field(out, values::bytes::part(text, from as usize, to as usize))
 }
 
-// The word of this number in a list, in which each word ends with a comma; nothing where there is none.
-pub fn word<W: Write>(out: &mut W, words: &[u8], number: u64) -> io::Result<()> {
-    let mut left = number;
-    let mut start = 0;
-    for i in 0..words.len() {
-        if words[i] == b',' {
-            if left == 0 {
-                return print(out, &words[start..i]);
-            }
-            left -= 1;
-            start = i + 1;
-        }
+// The word that a code names; nothing where it names none.
+pub fn word<W: Write>(out: &mut W, words: &[&[u8]], code: u64) -> io::Result<()> {
+    match words.get(code as usize) {
+        Some(&word) => print(out, word),
+        None => Ok(()),
     }
-    Ok(())
 }
 
-// The word of a list that a code names, as a field, which is empty where the code names none.
-pub fn choice<W: Write>(out: &mut W, words: &[u8], code: u64) -> io::Result<()> {
+// The same as a field, which is empty where the code names none.
+pub fn choice<W: Write>(out: &mut W, words: &[&[u8]], code: u64) -> io::Result<()> {
     print(out, b"\t")?;
     word(out, words, code)
 }
 
 // The index of which a row holds one more, as a field; the field `none` where the row holds 0.
 pub fn index<W: Write>(out: &mut W, held: u64, none: &[u8]) -> io::Result<()> {
-    if held == 0 {
-        return print(out, none);
+    match held.checked_sub(1) {
+        Some(index) => number(out, index),
+        None => print(out, none),
     }
-    number(out, held - 1)
+}
+
+// The first `count` rows, each printed with its index; all where there are fewer.
+pub(crate) fn rows<W: Write, T: Copy, F: FnMut(&mut W, usize, T) -> io::Result<()>>(
+    out: &mut W,
+    rows: &[T],
+    count: usize,
+    mut print_row: F,
+) -> io::Result<()>
+    requires { F.IsAlwaysCallable print_row }
+{
+    for (index, row) in rows.iter().take(count).enumerate() {
+        print_row(out, index, *row)?;
+    }
+    Ok(())
 }

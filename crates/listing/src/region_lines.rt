@@ -14,7 +14,7 @@ fn print_row<W: Write>(out: &mut W, text: &[u8], number: usize, row: RegionRow) 
     printing::percentage(out, row[REGION_ANCHOR_Y])?;
     printing::percentage(out, row[REGION_VIEWPORT_X])?;
     printing::percentage(out, row[REGION_VIEWPORT_Y])?;
-    printing::choice(out, b"none,up,", row[REGION_SCROLL])?;
+    printing::choice(out, &[b"none", b"up"], row[REGION_SCROLL])?;
     printing::print(out, b"\n")
 }
 
@@ -25,9 +25,10 @@ pub(crate) fn print_all<W: Write>(
     regions: &[RegionRow],
     count: usize,
 ) -> io::Result<()> {
-    let end = values::least(count, regions.len());
-    for i in 0..end {
-        print_row(out, text, i, regions[i])?;
-    }
-    Ok(())
+    printing::rows(
+        out,
+        regions,
+        count,
+        |out, number, row| print_row(out, text, number, row),
+    )
 }

@@ -18,9 +18,10 @@ pub(crate) fn print_all<W: Write>(
     styles: &[StyleRow],
     count: usize,
 ) -> io::Result<()> {
-    let end = values::least(count, styles.len());
-    for i in 0..end {
-        print_row(out, text, i, styles[i])?;
-    }
-    Ok(())
+    printing::rows(
+        out,
+        styles,
+        count,
+        |out, number, row| print_row(out, text, number, row),
+    )
 }

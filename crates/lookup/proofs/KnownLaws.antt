@@ -1,4 +1,5 @@
 -- Answers that are remembered stay right: where a name is asked for again, where a row is stored, and where a region is added.
+use Rattle.std.specs.Prelude.{Option, None, Some}
 use Prim.Native.Nat.{ℕ, ◌+◌, ◌≤◌, ◌<◌}
 use mathlib.Core.Path.{◌≡◌, refl, sym, ap, ◌∙◌}
 use mathlib.Core.Bool.{true}
@@ -9,12 +10,10 @@ use lib.ListN.{length, take, get_or, set, replicate, length-set, length-replicat
 use lib.Seq.{take_all, take-length, take-take, take-set-le, length-take-le, get_or-set_same, get_or-set_other}
 use borrow.Author.Tests.{eqb-true, eqb-false}
 use Rattle.format.specs.Texts.{is_empty, same, bytes_at}
-use Rattle.format.specs.Rows.{index_is}
 use Rattle.format.specs.Writable.{last_of_its_name, names_of}
 use Rattle.format.specs.Replacing.{region_asked}
 use Rattle.format.specs.LookingUp.{look_up}
 use Rattle.format.specs.declared.settings.Span.{Span}
-use Rattle.format.specs.declared.rows.RegionIndex.{RegionIndex}
 use Rattle.laws.proofs.Tests.{by-test}
 use Rattle.laws.proofs.Runs.{same-is}
 use Rattle.laws.proofs.LookingUp.{look_up-named}
@@ -36,14 +35,14 @@ module _ {A : Type 0} (P : A → Type 0) (d : A) where
 abbrev name_at : List ℕ → Span → List ℕ
 name_at s name = bytes_at s name.from name.to
 
-words_index : (n : ℕ) (name : Span) (i : RegionIndex) → known_index (known_words n name i) ≡ i
-words_index n name RegionIndex.None = refl
-words_index n name (RegionIndex.At i) = refl
+words_index : (n : ℕ) (name : Span) (i : Option ℕ) → known_index (known_words n name i) ≡ i
+words_index n name None = refl
+words_index n name (Some i) = refl
 
 module _ (s : List ℕ) (rows : List (List ℕ)) where
   module _ (name : Span) where
     -- an empty name asks for none
-    pub asked-none : length (name_at s name) ≡ 0 → RegionIndex.None ≡ asked_at s rows name
+    pub asked-none : length (name_at s name) ≡ 0 → None ≡ asked_at s rows name
     unfolding region_asked
     asked-none e = rw (empty_is (name_at s name) e) refl
 
@@ -57,7 +56,7 @@ module _ (s : List ℕ) (rows : List (List ℕ)) where
     known_again k right all alike =
         sym right.says
         ∙ ap (λ r. asked_at s r (known_name k)) (take_all (known_count k) rows (omega arith))
-        ∙ ap (λ x. index_is (region_asked (names_of s rows) x)) (same-is (name_at s (known_name k)) (name_at s name) alike)
+        ∙ ap (λ x. (region_asked (names_of s rows) x)) (same-is (name_at s (known_name k)) (name_at s name) alike)
 
     -- a new row is right
     pub right_new : Right s rows (known_words (length rows) name (asked_at s rows name))

@@ -1,4 +1,5 @@
 -- Laws of a region's name: where it stands, and whether the region is the last with it.
+use Rattle.std.specs.Prelude.{Option}
 use Prim.Native.Nat.{ℕ, ◌≤◌, ◌<◌}
 use mathlib.Core.Path.{◌≡◌, sym}
 use mathlib.Core.Bool.{false}
@@ -6,14 +7,12 @@ use mathlib.Core.List.{List, []}
 use native.Mathlib.Omega.{arith}
 use lib.ListN.{length, get_or, length-map, get_or-map}
 use borrow.Author.Tests.{lt-ltb, le-ltb}
-use Rattle.format.specs.Contents.{option_of, region_of_entry, region_of_row}
+use Rattle.format.specs.Contents.{region_of_entry, region_of_row}
 use Rattle.format.specs.Texts.{same, bytes_at}
 use Rattle.format.specs.Writable.{is_index, last_of_its_name, names_of}
 use Rattle.format.specs.LookingUp.{look_up}
-use Rattle.format.specs.declared.rows.RegionIndex.{RegionIndex}
 use Rattle.laws.proofs.Tests.{by-test}
 use Rattle.laws.proofs.Runs.{same-is}
-use Rattle.laws.proofs.Rows.{option_index}
 use Rattle.laws.proofs.LookingUp.{look_up-named}
 use Rattle.values.proofs.NumberLaws.{empty_is, is_empty-not}
 
@@ -51,9 +50,9 @@ module _ (s : List ℕ) (rows : List (List ℕ)) (i : ℕ) where
     -- the look-up's answer decides
     pub last-is :
         (length (name_at s (get_or rows i [])) ≡ 0 → ⊥)
-        → (found : RegionIndex)
+        → (found : Option ℕ)
         → found ≡ (look_up (name_at s (get_or rows i [])) (names_of s rows)).index
-        → is_index (option_of found) i ≡ last_of_its_name (names_of s rows) i
+        → is_index found i ≡ last_of_its_name (names_of s rows) i
     unfolding last_of_its_name
     last-is f found e =
         let name = name_at s (get_or rows i []) in
@@ -63,5 +62,4 @@ module _ (s : List ℕ) (rows : List (List ℕ)) (i : ℕ) where
           is_empty-not name (omega arith),
           e,
           look_up-named name (names_of s rows),
-          option_index,
         )

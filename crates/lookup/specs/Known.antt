@@ -1,16 +1,15 @@
 -- Answers of the look-up that are remembered. What a name asks for has a row of words: how many regions there were, the name's part of the text
 -- from a place up to another, 1 where a region was found, and its index.
+use Rattle.std.specs.Prelude.{Option, None, Some}
 use Rattle.std.specs.Prelude.{ℕ, ◌+◌, ◌≤◌, ◌<◌, ◌≡◌, true, cond, List, [], ◌∷◌, eqb, length, take, get_or}
 use Rattle.format.specs.Texts.{bytes_at}
-use Rattle.format.specs.Rows.{index_is}
 use Rattle.format.specs.Writable.{last_of_its_name, names_of}
 use Rattle.format.specs.Replacing.{region_asked}
 use Rattle.format.specs.declared.settings.Span.{Span}
-use Rattle.format.specs.declared.rows.RegionIndex.{RegionIndex}
 
 -- the region that a part of a text asks for by its name, among rows over that text; an empty part asks for none
-abbrev pub asked_at : List ℕ → List (List ℕ) → Span → RegionIndex
-asked_at s rows name = index_is (region_asked (names_of s rows) (bytes_at s name.from name.to))
+abbrev pub asked_at : List ℕ → List (List ℕ) → Span → Option ℕ
+asked_at s rows name = (region_asked (names_of s rows) (bytes_at s name.from name.to))
 
 abbrev pub known_count : List ℕ → ℕ
 known_count k = get_or k 0 0
@@ -18,14 +17,14 @@ known_count k = get_or k 0 0
 abbrev pub known_name : List ℕ → Span
 known_name k = record { from = get_or k 1 0; to = get_or k 2 0 }
 
-abbrev pub known_index : List ℕ → RegionIndex
-known_index k = cond (eqb (get_or k 3 0) 0) RegionIndex.None (RegionIndex.At (get_or k 4 0))
+abbrev pub known_index : List ℕ → Option ℕ
+known_index k = cond (eqb (get_or k 3 0) 0) None (Some (get_or k 4 0))
 
-abbrev pub found_words : RegionIndex → List ℕ
-found_words RegionIndex.None = 0 ∷ 0 ∷ []
-found_words (RegionIndex.At i) = 1 ∷ i ∷ []
+abbrev pub found_words : Option ℕ → List ℕ
+found_words None = 0 ∷ 0 ∷ []
+found_words (Some i) = 1 ∷ i ∷ []
 
-abbrev pub known_words : ℕ → Span → RegionIndex → List ℕ
+abbrev pub known_words : ℕ → Span → Option ℕ → List ℕ
 known_words count name index = count ∷ name.from ∷ name.to ∷ found_words index
 
 -- a row is right: it says what its name asks for among the first regions, as many as there were

@@ -5,7 +5,7 @@ ghost use Rattle.format.specs.Writable.{last_of_its_name, names_of};
 ghost use Rattle.lookup.specs.Known.{asked_at, known_name, known_index, known_words, AllRight, AllLast};
 
 use super::{find_region, is_named};
-use format::rows::{RegionIndex, RegionRow};
+use format::rows::RegionRow;
 use format::settings::Span;
 use values::bytes::part;
 
@@ -22,10 +22,8 @@ fn place_of(name: &[u8]) -> usize
     ensures { result < 256 }
 {
     let mut sum = 0;
-    let mut i = 0;
-    while i < name.len() {
-        sum = (sum * 31 + name[i] as usize) % KNOWN_ROWS;
-        i += 1;
+    for &b in name {
+        sum = (sum * 31 + b as usize) % KNOWN_ROWS;
     }
     sum
 }
@@ -39,24 +37,24 @@ fn known_name(row: KnownRow) -> Span
     }
 }
 
-fn known_index(row: KnownRow) -> RegionIndex
+fn known_index(row: KnownRow) -> Option<u64>
     ensures { result ≡ known_index row }
 {
     if row[3] == 0 {
-        return RegionIndex::None;
+        return None;
     }
-    RegionIndex::At(row[4])
+    Some(row[4])
 }
 
-fn known_row(count: usize, name: Span, index: RegionIndex) -> KnownRow
+fn known_row(count: usize, name: Span, index: Option<u64>) -> KnownRow
     ensures { result ≡ known_words count name index }
 {
     let n = count as u64;
     let from = name.from as u64;
     let to = name.to as u64;
     match index {
-        RegionIndex::None => [n, from, to, 0, 0],
-        RegionIndex::At(i) => [n, from, to, 1, i],
+        None => [n, from, to, 0, 0],
+        Some(i) => [n, from, to, 1, i],
     }
 }
 
@@ -66,7 +64,7 @@ pub fn region_asked(
     regions: &[RegionRow],
     name: Span,
     known: &mut [KnownRow],
-) -> RegionIndex
+) -> Option<u64>
     requires known_len { length known.old ≡ 256 }
     requires all_right { AllRight text.now regions.now known.old }
     ensures index { result ≡ asked_at text.now regions.now name }
@@ -74,7 +72,7 @@ pub fn region_asked(
 {
     let wanted = part(text, name.from, name.to);
     if wanted.len() == 0 {
-        return RegionIndex::None;
+        return None;
     }
     let place = place_of(wanted);
     let row = known[place];
@@ -102,8 +100,8 @@ fn is_last_of_its_name(text: &[u8], regions: &[RegionRow], index: usize) -> bool
     let found = find_region(text, regions, name);
     let place = found.index;
     match place {
-        RegionIndex::None => false,
-        RegionIndex::At(last) => last == index as u64,
+        None => false,
+        Some(last) => last == index as u64,
     }
 }
 

@@ -7,7 +7,7 @@ ghost use Rattle.format.specs.Writable.{names_of};
 ghost use Rattle.format.specs.LookingUp.{look_up, Last};
 
 use format::RegionFound;
-use format::rows::{RegionIndex, RegionRow};
+use format::rows::RegionRow;
 use format::settings::Span;
 use values::bytes::{part, same_bytes};
 
@@ -17,14 +17,7 @@ pub mod inner;
 fn ends_alike(a: &[u8], b: &[u8]) -> bool
     ensures { result ≡ false → same a.now b.now ≡ false }
 {
-    let n = a.len();
-    if n != b.len() {
-        return false;
-    }
-    if n == 0 {
-        return true;
-    }
-    a[n - 1] == b[n - 1]
+    a.len() == b.len() && a.last() == b.last()
 }
 
 // Is the part of a text at these places this name.
@@ -44,18 +37,16 @@ pub fn find_region(text: &[u8], regions: &[RegionRow], name: &[u8]) -> RegionFou
     ensures last { Last name.now (names_of text.now regions.now) result.index result.seen }
 {
     let count = regions.len();
-    let mut i = count;
-    while 0 < i {
-        i -= 1;
+    for i in (0..count).rev() {
         if is_named(text, rows::regions::id(regions[i]), name) {
             return RegionFound {
-                index: RegionIndex::At(i as u64),
+                index: Some(i as u64),
                 seen: count - i,
             };
         }
     }
     RegionFound {
-        index: RegionIndex::None,
+        index: None,
         seen: count,
     }
 }

@@ -3,7 +3,7 @@ use Prim.Native.Nat.{ℕ, zero, suc, ◌+◌, ◌≤◌}
 use mathlib.Core.Path.{◌≡◌, ap}
 use mathlib.Core.Bool.{Bool, true, false, ◌||◌}
 use mathlib.Core.List.{List, [], ◌∷◌, ◌++◌}
-use mathlib.Core.Option.{Option, none, some}
+use Rattle.std.specs.Prelude.{Option, None, Some, Ok, Err}
 use native.Mathlib.Omega.{arith}
 use lib.Dec.{eqb}
 use lib.ListN.{length, drop, length-append, length-drop}
@@ -21,8 +21,7 @@ use Rattle.tokenizer.proofs.Strings.{not_less, string_token_lem}
 use Rattle.tokenizer.proofs.Tags.{not_greater, tag_token}
 use Rattle.strings.specs.Stores.{separates, one}
 use Rattle.strings.proofs.TextLaws.{decoded-length, collapsed-length, class_string_lem}
-use Rattle.nodes.specs.Tokens.{made_is, token_classes, token_value}
-use Rattle.nodes.specs.declared.inner.tokens.Made.{Made}
+use Rattle.nodes.specs.Tokens.{Gift, made_is, token_classes, token_value}
 use Rattle.node_laws.specs.Sizes.{top_kind, kinds_after, made_count, made_length, count_from, length_from}
 use Rattle.node_laws.proofs.TreeLaws.{node_strings_append}
 
@@ -132,16 +131,16 @@ element-size :
     (parent : Option ℕ) (classes annotation : List ℕ) (o : Option NodeKind)
     → length (node_strings (element parent classes annotation o)) ≤ length classes + length annotation
 unfolding element node_strings value_for
-element-size parent classes annotation none = omega arith
-element-size parent classes annotation (some k) =
-    by-test (is_kind (some k) NodeKind.Voice || is_kind (some k) NodeKind.Language)
+element-size parent classes annotation None = omega arith
+element-size parent classes annotation (Some k) =
+    by-test (is_kind (Some k) NodeKind.Voice || is_kind (Some k) NodeKind.Language)
     (λ y. rw y (omega (arith, length-append (classes ++ annotation) [], length-append classes annotation)))
     (λ n. rw n (omega (arith, length-append (classes ++ []) [], length-append classes [])))
 
 stamped-size : (parent : Option ℕ) (o : Option Time) → length (node_strings (stamped parent o)) ≤ 0
 unfolding stamped node_strings
-stamped-size parent none = omega arith
-stamped-size parent (some t) = omega arith
+stamped-size parent None = omega arith
+stamped-size parent (Some t) = omega arith
 
 made-size : (path : List Open) (t : Token) → length (node_strings (made path t)) ≤ size t
 unfolding made size node_strings
@@ -165,25 +164,25 @@ unfolding nodes
 room_bound s = omega (arith, nodes-size [] 0 (cue_tokens s), sizes_bound s)
 
 -- the same of what is counted by kinds
-length-size : (m : Made) (t : Token) → made_length m t ≤ size t
+length-size : (m : Gift) (t : Token) → made_length m t ≤ size t
 unfolding made_length size token_classes token_value value_for
-length-size Made.None t = omega arith
-length-size Made.Over t = omega arith
-length-size (Made.Node k time) (string_token value) = omega arith
-length-size (Made.Node k time) (start_tag name classes annotation) = by-test (is_kind (some k) NodeKind.Voice || is_kind (some k) NodeKind.Language) (λ y. rw y (omega arith)) (λ n. rw n (omega arith))
-length-size (Made.Node k time) (end_tag name) = omega arith
-length-size (Made.Node k time) (timestamp_tag value) = omega arith
+length-size (Ok None) t = omega arith
+length-size (Err over) t = omega arith
+length-size (Ok (Some m)) (string_token value) = omega arith
+length-size (Ok (Some m)) (start_tag name classes annotation) = by-test (is_kind (Some m.kind) NodeKind.Voice || is_kind (Some m.kind) NodeKind.Language) (λ y. rw y (omega arith)) (λ n. rw n (omega arith))
+length-size (Ok (Some m)) (end_tag name) = omega arith
+length-size (Ok (Some m)) (timestamp_tag value) = omega arith
 
 lengths-size : (ks : List NodeKind) (ts : List Token) → length_from ks ts ≤ sizes ts
 unfolding length_from sizes
 lengths-size ks [] = omega arith
 lengths-size ks (t ∷ ts) = omega (arith, length-size (made_is (top_kind ks) t) t, lengths-size (kinds_after ks t) ts)
 
-count-one : (m : Made) → made_count m ≤ 1
+count-one : (m : Gift) → made_count m ≤ 1
 unfolding made_count
-count-one Made.None = omega arith
-count-one Made.Over = omega arith
-count-one (Made.Node k time) = omega arith
+count-one (Ok None) = omega arith
+count-one (Err over) = omega arith
+count-one (Ok (Some m)) = omega arith
 
 counts-size : (ks : List NodeKind) (ts : List Token) → count_from ks ts ≤ length ts
 unfolding count_from

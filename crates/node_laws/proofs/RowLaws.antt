@@ -4,7 +4,7 @@ use Prim.Native.Nat.{ℕ, zero, suc, ◌+◌, ◌-◌, ◌≤◌, ◌<◌}
 use mathlib.Core.Path.{◌≡◌, refl, sym, ap}
 use mathlib.Core.Bool.{true, ◌&&◌}
 use mathlib.Core.List.{List, [], ◌∷◌, ◌++◌, map, append_assoc}
-use mathlib.Core.Option.{Option, none, some}
+use Rattle.std.specs.Prelude.{Option, None, Some}
 use native.Mathlib.Omega.{arith}
 use lib.ListN.{length, drop, length-append}
 use lib.Seq.{take-append_seam, drop-append_seam}
@@ -15,6 +15,7 @@ use Rattle.format.specs.Rows.{word}
 use Rattle.format.specs.Texts.{bytes_at}
 use Rattle.format.specs.Trees.{Node, kind_word, kind_named, Open, parent_of, kind_of, attached, tag_time, element, stamped, made, entering, path_after, nodes_from, nodes, node_strings, place_words, parent_word, node_words, node_rows, parent_named, kind_numbered, node_of_row, parent_before, parents_first, TreeStands}
 use Rattle.format.specs.declared.kinds.NodeKind.{NodeKind}
+use Rattle.nodes.proofs.KindLaws.{kind_numbered_lem}
 use Rattle.laws.proofs.Tests.{and_left, and_right, and_both}
 use Rattle.node_laws.proofs.TreeLaws.{leaving_keeps}
 use Rattle.node_laws.proofs.RoomLaws.{room_bound}
@@ -22,27 +23,14 @@ use Rattle.node_laws.proofs.RoomLaws.{room_bound}
 -- the word of a parent and of a kind names it
 pub parent_named_lem : (o : Option ℕ) → parent_named (parent_word o) ≡ o
 unfolding parent_named parent_word
-parent_named_lem none = refl
-parent_named_lem (some i) = refl
+parent_named_lem None = refl
+parent_named_lem (Some i) = refl
 
 -- and a word is the word of the parent that it names
 pub named-word : (w : ℕ) → parent_word (parent_named w) ≡ w
 unfolding parent_named parent_word
 named-word zero = refl
 named-word (suc i) = refl
-
-pub kind_numbered_lem : (k : NodeKind) → kind_numbered (kind_word k) ≡ k
-unfolding kind_numbered
-kind_numbered_lem NodeKind.Class = refl
-kind_numbered_lem NodeKind.Italic = refl
-kind_numbered_lem NodeKind.Bold = refl
-kind_numbered_lem NodeKind.Underline = refl
-kind_numbered_lem NodeKind.Ruby = refl
-kind_numbered_lem NodeKind.RubyText = refl
-kind_numbered_lem NodeKind.Voice = refl
-kind_numbered_lem NodeKind.Language = refl
-kind_numbered_lem NodeKind.String = refl
-kind_numbered_lem NodeKind.Timestamp = refl
 
 -- a string's place is two words
 two_words : (place : ℕ) (x : List ℕ) → place_words place x ≡ word 0 (place_words place x) ∷ word 1 (place_words place x) ∷ []
@@ -139,9 +127,9 @@ element_turn :
     → Before index path
     → Turn path index (start_tag name classes annotation)
 unfolding made element path_after entering parents_first
-element_turn path index name classes annotation none e b =
+element_turn path index name classes annotation None e b =
     record { first = rw (sym e) refl; then = rw (sym e) (later (index + 0) (omega arith) b) }
-element_turn path index name classes annotation (some k) e b =
+element_turn path index name classes annotation (Some k) e b =
     record {
       first = rw (sym e) (current-first b);
       then = rw (sym e) (below {o = record { index = index; kind = k }} (omega arith) (later (index + 1) (omega arith) b));
@@ -153,8 +141,8 @@ stamp_turn :
     → Before index path
     → Turn path index (timestamp_tag value)
 unfolding made stamped path_after parents_first
-stamp_turn path index value none e b = record { first = rw (sym e) refl; then = rw (sym e) (later (index + 0) (omega arith) b) }
-stamp_turn path index value (some t) e b =
+stamp_turn path index value None e b = record { first = rw (sym e) refl; then = rw (sym e) (later (index + 0) (omega arith) b) }
+stamp_turn path index value (Some t) e b =
     record { first = rw (sym e) (current-first b); then = rw (sym e) (later (index + 1) (omega arith) b) }
 
 turn : (path : List Open) (index : ℕ) (t : Token) → Before index path → Turn path index t

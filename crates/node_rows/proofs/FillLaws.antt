@@ -3,7 +3,7 @@ use Prim.Native.Nat.{ℕ, zero, suc, ◌+◌, ◌-◌, ◌≤◌, ◌<◌}
 use mathlib.Core.Path.{◌≡◌, refl, sym, ap, ◌∙◌}
 use mathlib.Core.Bool.{false, cond, ◌&&◌, ◌||◌, false≢true}
 use mathlib.Core.List.{List, [], ◌∷◌, ◌++◌, append-nil, append_assoc}
-use mathlib.Core.Option.{Option, none, some}
+use Rattle.std.specs.Prelude.{Option, None, Some}
 use native.Mathlib.Numerals.{add-one}
 use native.Mathlib.Omega.{arith}
 use lib.Dec.{eqb, ltb}
@@ -19,33 +19,34 @@ use Rattle.format.specs.declared.kinds.NodeKind.{NodeKind}
 use Rattle.laws.proofs.Tests.{by-test, or_first, or_second}
 use Rattle.strings.specs.Stores.{stored, Stores}
 use Rattle.strings.proofs.StoreLaws.{stored-within, ◌then◌}
-use Rattle.nodes.specs.Tokens.{made_is, token_classes, token_value, left_kind}
+use Rattle.nodes.specs.Tokens.{Gift, made_is, token_classes, token_value, left_kind}
 use Rattle.nodes.specs.declared.inner.tokens.Made.{Made}
 use Rattle.node_rows.specs.Rows.{no_row, node_named, up_in, kind_in, left_of, left_in, node_below, Puts, Turned, Fits}
 use Rattle.node_rows.specs.declared.inner.filling.Filled.{Filled}
 use Rattle.node_laws.proofs.TreeLaws.{leaving_keeps, Gives, ignored, above, attaches, gives, node_strings_append}
 use Rattle.node_laws.proofs.RoomLaws.{room_bound}
-use Rattle.node_laws.proofs.RowLaws.{parent_named_lem, named-word, kind_numbered_lem, length-rows}
+use Rattle.node_laws.proofs.RowLaws.{parent_named_lem, named-word, length-rows}
+use Rattle.nodes.proofs.KindLaws.{kind_numbered_lem}
 
 -- a node's strings and its row, put one after the other
 pub puts_node :
-    {t : Token} {kind : NodeKind} {time : ℕ} {m : Filled} {room r room' row : List ℕ} {rows : List (List ℕ)} {between to current : ℕ}
+    {t : Token} {made : Made} {m : Filled} {room r room' row : List ℕ} {rows : List (List ℕ)} {between to current : ℕ}
     → Stores (token_classes t) m.used room between r
-    → Stores (token_value kind t) between r to room'
+    → Stores (token_value made.kind t) between r to room'
     → ((classes value : List ℕ)
     → between ≡ m.used + length classes
     → to ≡ between + length value
-    → row ≡ node_words m.used (node_below m.current kind classes value time))
-    → current ≡ cond (ltb (kind_word kind) 8) (m.count + 1) m.current
-    → Puts t kind time m room rows (record { count = m.count + 1; used = to; current = current }) room' (set rows m.count row)
-puts_node {t} {kind} {m = m} {rows = rows} a b e f =
+    → row ≡ node_words m.used (node_below m.current made classes value))
+    → current ≡ cond (ltb (kind_word made.kind) 8) (m.count + 1) m.current
+    → Puts t made m room rows (record { count = m.count + 1; used = to; current = current }) room' (set rows m.count row)
+puts_node {t} {made} {m = m} {rows = rows} a b e f =
     let both = a then b in
     record {
       count = refl;
-      used = b.place ∙ ap (λ n. n + length (token_value kind t)) a.place;
+      used = b.place ∙ ap (λ n. n + length (token_value made.kind t)) a.place;
       current = f;
       strings = both.holds;
-      row = ap (set rows m.count) (e (token_classes t) (token_value kind t) a.place b.place);
+      row = ap (set rows m.count) (e (token_classes t) (token_value made.kind t) a.place b.place);
     }
 
 -- the words of a place and of a string that stands there
@@ -56,25 +57,25 @@ span_place place (b ∷ x) = rw (ne_eqb place (place + suc (length x)) (λ e. ab
 
 -- the row of a node by the places of its strings
 pub row_is :
-    (parent : ℕ) (kind : NodeKind) (from between to time : ℕ) (classes value : List ℕ)
+    (parent : ℕ) (made : Made) (from between to : ℕ) (classes value : List ℕ)
     → between ≡ from + length classes
     → to ≡ between + length value
     → parent
-    ∷ kind_word kind
+    ∷ kind_word made.kind
     ∷ cond (eqb from between) 0 from
     ∷ cond (eqb from between) 0 between
     ∷ cond (eqb between to) 0 between
     ∷ cond (eqb between to) 0 to
-    ∷ time
+    ∷ made.time
     ∷ []
-    ≡ node_words from (node_below parent kind classes value time)
+    ≡ node_words from (node_below parent made classes value)
 unfolding node_words
-row_is parent kind from between to time classes value e f =
+row_is parent made from between to classes value e f =
     rw (named-word parent, ← (span_place from classes), ← (span_place (from + length classes) value), f, e) refl
 
 -- the node with an index, where there is one
 abbrev no_node : Node
-no_node = record { parent = none; kind = NodeKind.String; classes = []; value = []; time = 0 }
+no_node = record { parent = None; kind = NodeKind.String; classes = []; value = []; time = 0 }
 
 -- its row says its parent and its kind
 row_at :
@@ -129,7 +130,7 @@ module _ (ns : List Node) (rest : List (List ℕ)) where
   kind_is_lem at_root = refl
   kind_is_lem (linked {o = o} h p k l) =
       let e : suc o.index - 1 ≡ o.index = omega arith in
-      rw (has-row o.index h, e) (ap some ((row_at 0 ns rest o.index h).1 ∙ k))
+      rw (has-row o.index h, e) (ap Some ((row_at 0 ns rest o.index h).1 ∙ k))
 
   -- the current node after an end tag
   left_is : (o : Option NodeKind) (path : List Open) → Linked ns path → left_in rows (parent_word (parent_of path)) o ≡ parent_word (parent_of (leaving o path))
@@ -139,7 +140,7 @@ module _ (ns : List Node) (rest : List (List ℕ)) where
       rw (kind_is_lem l, up_is l, up_is (drop_linked ns (p ∷ path) l))
       (by-test (is_kind o p.kind)
       (λ y. rw y refl)
-      (λ n. by-test (is_kind o NodeKind.Ruby && is_kind (some p.kind) NodeKind.RubyText) (λ y. rw (n, y) refl) (λ m. rw (n, m) refl)))
+      (λ n. by-test (is_kind o NodeKind.Ruby && is_kind (Some p.kind) NodeKind.RubyText) (λ y. rw (n, y) refl) (λ m. rw (n, m) refl)))
 
 -- rows and strings of nodes, and of one more
 rows_more : (place : ℕ) (ns : List Node) (n : Node) → node_rows place (ns ++ n ∷ []) ≡ node_rows place ns ++ node_words (place + length (node_strings ns)) n ∷ []
@@ -333,7 +334,7 @@ module _ (s room₀ : List ℕ) (rows₀ : List (List ℕ)) where
         pub count_fits : length (nodes s) ≤ length rows₀ → m.count < length rows
         count_fits h = rw f.count (row_fits h)
 
-        module _ (r : Filled) (room' : List ℕ) (rows' : List (List ℕ)) (q : Puts tok k time m room rows r room' rows')
+        module _ (r : Filled) (room' : List ℕ) (rows' : List (List ℕ)) (q : Puts tok (record { kind = k; time = time }) m room rows r room' rows')
             (lr : length (nodes s) ≤ length rows₀) (ls : length (node_strings (nodes s)) ≤ length room₀) where
           current' : r.current ≡ parent_word (parent_of path')
           unfolding parent_word parent_of
@@ -352,7 +353,7 @@ module _ (s room₀ : List ℕ) (rows₀ : List (List ℕ)) where
               (linked {o = record { index = i; kind = k }} (omega (arith, long)) (ap (λ m. m.parent) last) (ap (λ m. m.kind) last) (linked_more f.done n f.links)))
               (λ z. rw z (linked_more f.done n f.links))
 
-          row' : node_words m.used (node_below m.current k (token_classes tok) (token_value k tok) time) ≡ node_words (length (node_strings f.done)) n
+          row' : node_words m.used (node_below m.current (record { kind = k; time = time }) (token_classes tok) (token_value k tok)) ≡ node_words (length (node_strings f.done)) n
           row' = rw (f.current, f.used, parent_named_lem (parent_of f.path)) refl
 
           table' : rows' ≡ node_rows 0 done' ++ drop (length done') rows₀
@@ -383,7 +384,7 @@ module _ (s room₀ : List ℕ) (rows₀ : List (List ℕ)) where
 
       -- there is room for what the token gives, and when it is put the pass is one token further
       module _ (lr : length (nodes s) ≤ length rows₀) (ls : length (node_strings (nodes s)) ≤ length room₀) where
-        fits_given : {md : Made} → length s ≤ max_text → Gives f.path i tok md → Fits md tok m rows
+        fits_given : {md : Gift} → length s ≤ max_text → Gives f.path i tok md → Fits md tok m rows
         fits_given h (ignored g o p) = tt
         fits_given h (above y) = tt
         fits_given h (attaches {k = k} {time = time} g o p) = (classes_fit k time g p h, count_fits k time g p lr)
@@ -392,7 +393,7 @@ module _ (s room₀ : List ℕ) (rows₀ : List (List ℕ)) where
         filling_fits h = rw filling_kind (fits_given h (gives f.path i tok))
 
         module _ (r : Filled) (room' : List ℕ) (rows' : List (List ℕ)) where
-          turned : {md : Made} → Gives f.path i tok md → Turned md tok m room rows r room' rows' → Filling s room₀ rows₀ next r room' rows'
+          turned : {md : Gift} → Gives f.path i tok md → Turned md tok m room rows r room' rows' → Filling s room₀ rows₀ next r room' rows'
           turned (ignored g o p) t = rw (t.0, t.1, t.2) (filling_left g p)
           turned (above y) t = absurd (false≢true (sym not-over ∙ y))
           turned (attaches {k = k} {time = time} g o p) t = filling_put k time g p r room' rows' t lr ls

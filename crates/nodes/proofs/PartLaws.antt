@@ -1,4 +1,4 @@
--- The parts of a token that was found in a text: they lie in the text, and the part between a name and an annotation stands for the classes.
+-- The part between a name and an annotation of a token that was found in a text: it stands for the classes.
 use Prim.Native.Nat.{ℕ, ◌+◌, ◌-◌, ◌≤◌}
 use mathlib.Core.Path.{◌≡◌, sym}
 use mathlib.Core.Bool.{true}
@@ -18,43 +18,22 @@ use Rattle.tokenizer.proofs.Spans.{part-first}
 use Rattle.strings.specs.Stores.{separates, one}
 use Rattle.strings.proofs.TextLaws.{classes_of_lem, classes_of-none}
 
--- a part lies in a text
-pub record In (s : List ℕ) (p : Span) : Type 0 where
-  pub ends : p.from ≤ p.to
-  pub inside : p.to ≤ length s
+module _ (s : List ℕ) (t : Token) (h : PartsIn s 0 (length s) t) (n q r : Span) (e : t ≡ Token.Start n q r) where
+  start_in : StartIn s 0 (length s) n q r
+  start_in = rw e at h
 
-module _ (s : List ℕ) (t : Token) (h : PartsIn s 0 (length s) t) where
-  pub string_in : (p : Span) → t ≡ Token.String p → In s p
-  string_in p e = let k = rw e at h in record { ends = k.ends; inside = k.last }
+  classes_in : q.to ≤ length s
+  classes_in = let k = start_in in omega (arith, k.beyond, k.annotated, k.last)
 
-  pub end_in : (p : Span) → t ≡ Token.End p → In s p
-  end_in p e = let k = rw e at h in record { ends = k.ends; inside = k.last }
-
-  pub timestamp_in : (p : Span) → t ≡ Token.Timestamp p → In s p
-  timestamp_in p e = let k = rw e at h in record { ends = k.ends; inside = k.last }
-
-  module _ (n q r : Span) (e : t ≡ Token.Start n q r) where
-    start_in : StartIn s 0 (length s) n q r
-    start_in = rw e at h
-
-    pub name_in : In s n
-    name_in = let k = start_in in record { ends = k.named; inside = omega (arith, k.between, k.classed, k.beyond, k.annotated, k.last) }
-
-    pub classes_in : In s q
-    classes_in = let k = start_in in record { ends = k.classed; inside = omega (arith, k.beyond, k.annotated, k.last) }
-
-    pub annotation_in : In s r
-    annotation_in = let k = start_in in record { ends = k.annotated; inside = k.last }
-
-    -- classes parted by full stops, empty ones left out, are the part with its full stops collapsed
-    pub class_part : collapsed (separates true) (one true) (span_bytes s q) ≡ class_string (classes_of (span_bytes s q))
-    unfolding bytes_at
-    class_part =
-        by-test (ltb q.from q.to)
-        (λ y.
-        let l = ltb-true q.from q.to y in
-        let first = part-first s q.from q.to l classes_in.inside in
-        rw first (sym (classes_of_lem (get_or s q.from 0) (bytes_at s (q.from + 1) q.to) (start_in.stop l))))
-        (λ n.
-        let z : q.to - q.from ≡ 0 = omega (arith, ltb-false q.from q.to n) in
-        rw z (sym classes_of-none))
+  -- classes parted by full stops, empty ones left out, are the part with its full stops collapsed
+  pub class_part : collapsed (separates true) (one true) (span_bytes s q) ≡ class_string (classes_of (span_bytes s q))
+  unfolding bytes_at
+  class_part =
+      by-test (ltb q.from q.to)
+      (λ y.
+      let l = ltb-true q.from q.to y in
+      let first = part-first s q.from q.to l classes_in in
+      rw first (sym (classes_of_lem (get_or s q.from 0) (bytes_at s (q.from + 1) q.to) (start_in.stop l))))
+      (λ n.
+      let z : q.to - q.from ≡ 0 = omega (arith, ltb-false q.from q.to n) in
+      rw z (sym classes_of-none))

@@ -3,22 +3,22 @@ use mathlib.Core.Path.{◌≡◌, refl, ap, ◌∙◌}
 use mathlib.Core.List.{List}
 use Prim.Native.Nat.{ℕ}
 use lib.ListN.{length}
-use Rattle.format.specs.Times.{Result, failed, got, value, Time, only_time, over_hours}
+use Rattle.std.specs.Prelude.{None, Ok, Err}
+use Rattle.format.specs.Times.{Result as Told, failed, got, value, Time, only_time, over_hours}
 use Rattle.format.specs.Trees.{tag_time}
 use Rattle.format.specs.declared.kinds.NodeKind.TheVariants as NodeKind
 use Rattle.laws.proofs.Tests.{by-test}
 use Rattle.values.specs.Times.{stamp_is}
 use Rattle.format.specs.declared.times.Stamp.{Stamp}
-use Rattle.nodes.specs.Tokens.{stamp_made}
-use Rattle.nodes.specs.declared.inner.tokens.Made.{Made}
+use Rattle.nodes.specs.Tokens.{Gift, node, stamp_made}
 
 -- what a tag's time gives, by the answer
-abbrev pub given : Stamp → Made
-given (Stamp.Bad f at) = Made.None
-given (Stamp.Over next) = Made.Over
-given (Stamp.At ms next) = Made.Node NodeKind.Timestamp ms
+abbrev pub given : Stamp → Gift
+given (Stamp.Bad f at) = Ok None
+given (Stamp.Over next) = Err (record {})
+given (Stamp.At ms next) = node NodeKind.Timestamp ms
 
-given_is : (n : ℕ) (r : Result Time) → given (stamp_is n r) ≡ stamp_made (value r)
+given_is : (n : ℕ) (r : Told Time) → given (stamp_is n r) ≡ stamp_made (value r)
 unfolding stamp_made value
 given_is n (failed f rest) = refl
 given_is n (got t rest) = by-test (over_hours t) (λ y. rw y) (λ m. rw m)

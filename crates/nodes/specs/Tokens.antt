@@ -1,33 +1,36 @@
 -- What a token gives, as the code holds it: a node or none, its strings, and which node it leaves.
 use Rattle.std.specs.Prelude.{ℕ, cond, not, ◌&&◌, List, []}
-use Rattle.std.proofs.Math.Option.{Option, none, some}
+use Rattle.std.specs.Prelude.{Option, None, Some, Result, Ok, Err}
 use Rattle.format.specs.Times.{Time, milliseconds, over_hours}
 use Rattle.format.specs.CueText.{Token, string_token, start_tag, end_tag, timestamp_tag}
 use Rattle.format.specs.Trees.{kind_named, is_kind, attached, class_string, tag_time, value_for}
 use Rattle.format.specs.declared.kinds.NodeKind.{NodeKind}
-use Rattle.nodes.specs.declared.kinds.MaybeKind.{MaybeKind}
+use Rattle.format.specs.declared.errors.OverLimit.{OverLimit}
 use Rattle.nodes.specs.declared.inner.tokens.Made.{Made}
 
-abbrev pub kind_is : MaybeKind → Option NodeKind
-kind_is MaybeKind.None = none
-kind_is (MaybeKind.Is k) = some k
+-- what a token gives: a node, nothing, or a timestamp above its limit
+abbrev pub Gift : Type 0
+Gift = Result (Option Made) OverLimit
+
+abbrev pub node : NodeKind → ℕ → Gift
+node kind time = Ok (Some (record { kind = kind; time = time }))
 
 -- the kind that a tag that names this kind attaches to a current node of this kind: `attached`, of the named kind
 unfoldable pub attached_kind : Option NodeKind → Option NodeKind → Option NodeKind
-attached_kind current named = cond (is_kind named NodeKind.RubyText && not (is_kind current NodeKind.Ruby)) none named
+attached_kind current named = cond (is_kind named NodeKind.RubyText && not (is_kind current NodeKind.Ruby)) None named
 
-unfoldable pub element_made : Option NodeKind → Made
-element_made none = Made.None
-element_made (some k) = Made.Node k 0
+unfoldable pub element_made : Option NodeKind → Option Made
+element_made None = None
+element_made (Some k) = Some (record { kind = k; time = 0 })
 
-unfoldable pub stamp_made : Option Time → Made
-stamp_made none = Made.None
-stamp_made (some t) = cond (over_hours t) Made.Over (Made.Node NodeKind.Timestamp (milliseconds t))
+unfoldable pub stamp_made : Option Time → Gift
+stamp_made None = Ok None
+stamp_made (Some t) = cond (over_hours t) (Err (record {})) (node NodeKind.Timestamp (milliseconds t))
 
-unfoldable pub made_is : Option NodeKind → Token → Made
-made_is current (string_token value) = Made.Node NodeKind.String 0
-made_is current (start_tag name classes annotation) = element_made (attached current name)
-made_is current (end_tag name) = Made.None
+unfoldable pub made_is : Option NodeKind → Token → Gift
+made_is current (string_token value) = node NodeKind.String 0
+made_is current (start_tag name classes annotation) = Ok (element_made (attached current name))
+made_is current (end_tag name) = Ok None
 made_is current (timestamp_tag value) = stamp_made (tag_time value)
 
 -- the strings of the node, which is of this kind
@@ -45,7 +48,7 @@ token_value kind (timestamp_tag value) = []
 
 -- the kind that an end tag names; any other token names none
 unfoldable pub left_kind : Token → Option NodeKind
-left_kind (string_token value) = none
-left_kind (start_tag name classes annotation) = none
+left_kind (string_token value) = None
+left_kind (start_tag name classes annotation) = None
 left_kind (end_tag name) = kind_named name
-left_kind (timestamp_tag value) = none
+left_kind (timestamp_tag value) = None

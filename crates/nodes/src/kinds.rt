@@ -1,35 +1,11 @@
-// The kinds of nodes: the word of each, coded and decoded here alone, and the tests of a kind.
+// The kind that a word names, and the test of a kind.
 ghost use Rattle.std.specs.Prelude.{◌≡◌};
-ghost use Rattle.std.proofs.Math.Option.{some};
-ghost use Rattle.format.specs.Trees.{kind_word, kind_numbered, is_kind};
-ghost use Rattle.nodes.specs.Tokens.{kind_is};
+ghost use Rattle.format.specs.Trees.{kind_numbered, is_kind};
 
 use format::kinds::NodeKind;
 
-// The kind that a tag names, or the current node's; none where the name is no kind's, and of the root.
-#[derive(Clone, Copy)]
-pub enum MaybeKind {
-    None,
-    Is(NodeKind),
-}
-
-pub fn kind_word(kind: NodeKind) -> u64
-    ensures { result ≡ kind_word kind }
-{
-    match kind {
-        NodeKind::Class => 0,
-        NodeKind::Italic => 1,
-        NodeKind::Bold => 2,
-        NodeKind::Underline => 3,
-        NodeKind::Ruby => 4,
-        NodeKind::RubyText => 5,
-        NodeKind::Voice => 6,
-        NodeKind::Language => 7,
-        NodeKind::String => 8,
-        NodeKind::Timestamp => 9,
-    }
-}
-
+// The kind of a row's word. No `TryFrom`: by `node_of_row` every word names a kind.
+#[tactic(auto, unfolding(format::specs::Trees::kind_numbered))]
 pub fn kind_numbered(n: u64) -> NodeKind
     ensures { result ≡ kind_numbered n }
 {
@@ -47,17 +23,9 @@ pub fn kind_numbered(n: u64) -> NodeKind
     }
 }
 
-pub fn same_kind(a: NodeKind, b: NodeKind) -> bool
-    ensures { result ≡ is_kind (some a) b }
+// Is a kind that may be missing this one. The definitions compare kinds by `is_kind`.
+pub fn is_kind(named: Option<NodeKind>, kind: NodeKind) -> bool
+    ensures { result ≡ is_kind named kind }
 {
-    kind_word(a) == kind_word(b)
-}
-
-pub fn is_kind(named: MaybeKind, kind: NodeKind) -> bool
-    ensures { result ≡ is_kind (kind_is named) kind }
-{
-    match named {
-        MaybeKind::None => false,
-        MaybeKind::Is(k) => same_kind(k, kind),
-    }
+    named == Some(kind)
 }

@@ -10,6 +10,7 @@ use borrow.Author.Tests.{lt-ltb, le-ltb, ltb-true, ltb-false}
 use Rattle.format.specs.Limits.{max_file}
 use Rattle.format.specs.Answers.{placed}
 use Rattle.laws.proofs.Tests.{by-test}
+use Rattle.output.specs.declared.Output.{Output}
 use Rattle.output.specs.Puts.{onward, place_after, room_with, Puts}
 
 pub place_append : (at : ℕ) (x y : List ℕ) → place_after at (x ++ y) ≡ place_after (place_after at x) y
@@ -29,50 +30,55 @@ length-room at [] out = refl
 length-room at (b ∷ x) out = length-room (onward at) x (set out at b) ∙ length-set out at b
 
 -- one byte, below the greatest length of a file and above it
-onward-within : (at : ℕ) → at ≤ max_file → onward at ≡ at + 1
+pub onward-within : (at : ℕ) → at ≤ max_file → onward at ≡ at + 1
 unfolding onward
 onward-within at h = rw (le-ltb max_file at h) refl
 
-onward-above : (at : ℕ) → max_file < at → onward at ≡ at
+pub onward-above : (at : ℕ) → max_file < at → onward at ≡ at
 unfolding onward
 onward-above at h = rw (lt-ltb max_file at h) refl
 
-pub puts_within : {b at : ℕ} {out o : List ℕ} → o ≡ set out at b → at ≤ max_file → Puts (b ∷ []) at out (at + 1) o
+-- one byte stored at the place
+pub puts_within :
+    {b : ℕ} {out mid : Output} → mid.room.now ≡ set out.room.now out.at b → mid.room.ghost_name ≡ out.room.ghost_name → mid.at ≡ out.at
+    → mid.at ≤ max_file → Puts (b ∷ []) out (record { room = mid.room; at = mid.at + 1 })
 unfolding place_after room_with
-puts_within {b} {at} e h = record { place = sym (onward-within at h); holds = e }
+puts_within {b} {out} {mid} e l a h =
+    record { place = ap (λ k. k + 1) a ∙ sym (onward-within out.at (omega arith)); holds = e; lent = l }
 
-pub puts_above : {b at : ℕ} {out o : List ℕ} → o ≡ set out at b → max_file < at → Puts (b ∷ []) at out at o
+pub puts_above :
+    {b : ℕ} {out mid : Output} → mid.room.now ≡ set out.room.now out.at b → mid.room.ghost_name ≡ out.room.ghost_name → mid.at ≡ out.at
+    → max_file < mid.at → Puts (b ∷ []) out mid
 unfolding place_after room_with
-puts_above {b} {at} e h = record { place = sym (onward-above at h); holds = e }
+puts_above {b} {out} {mid} e l a h = record { place = a ∙ sym (onward-above out.at (omega arith)); holds = e; lent = l }
 
 -- nothing, one text after another, and the same text by another name
-pub puts_none : (at : ℕ) (out : List ℕ) → Puts [] at out at out
+pub puts_none : (out : Output) → Puts [] out out
 unfolding place_after room_with
-puts_none at out = record { place = refl; holds = refl }
+puts_none out = record { place = refl; holds = refl; lent = refl }
 
 infixl 5 ◌then◌
-pub ◌then◌ : {x y out o p : List ℕ} {at n m : ℕ} → Puts x at out n o → Puts y n o m p → Puts (x ++ y) at out m p
-◌then◌ {x} {y} {out} {o} {p} {at} {n} {m} f g =
+pub ◌then◌ : {x y : List ℕ} {out next end : Output} → Puts x out next → Puts y next end → Puts (x ++ y) out end
+◌then◌ {x} {y} {out} {next} {end} f g =
+    let before = out.room.now in
     record {
-      place = g.place ∙ ap (λ k. place_after k y) f.place ∙ sym (place_append at x y);
+      place = g.place ∙ ap (λ k. place_after k y) f.place ∙ sym (place_append out.at x y);
       holds =
           g.holds
-          ∙ ap (λ k. room_with k y o) f.place
-          ∙ ap (room_with (place_after at x) y) f.holds
-          ∙ sym (room_append at x y out);
+          ∙ ap (λ k. room_with k y next.room.now) f.place
+          ∙ ap (room_with (place_after out.at x) y) f.holds
+          ∙ sym (room_append out.at x y before);
+      lent = g.lent ∙ f.lent;
     }
 
-pub byte_then : {b : ℕ} {y out o p : List ℕ} {at n m : ℕ} → Puts (b ∷ []) at out n o → Puts y n o m p → Puts (b ∷ y) at out m p
+pub byte_then : {b : ℕ} {y : List ℕ} {out next end : Output} → Puts (b ∷ []) out next → Puts y next end → Puts (b ∷ y) out end
 byte_then f g = f then g
 
-pub puts_as : {x y out o : List ℕ} {at n : ℕ} → x ≡ y → Puts x at out n o → Puts y at out n o
-puts_as {x} {y} {out} {o} {at} {n} e f = rw (sym e) f
+pub puts_as : {x y : List ℕ} {out next : Output} → x ≡ y → Puts x out next → Puts y out next
+puts_as e f = rw (sym e) f
 
-pub puts_from : {x out o p : List ℕ} {at n : ℕ} → o ≡ out → Puts x at o n p → Puts x at out n p
-puts_from {x} {out} {o} {p} {at} {n} e f = rw (sym e) f
-
-pub puts_length : {x out o : List ℕ} {at n : ℕ} → Puts x at out n o → length o ≡ length out
-puts_length {x} {out} {o} {at} {n} f = ap length f.holds ∙ length-room at x out
+pub puts_from : {x : List ℕ} {out mid end : Output} → mid ≡ out → Puts x mid end → Puts x out end
+puts_from e f = rw (sym e) f
 
 -- while no place is above the greatest length of a file, the places are counted and the bytes stand one after another
 pub place-within : (at : ℕ) (x : List ℕ) → at + length x ≤ max_file + 1 → place_after at x ≡ at + length x
@@ -111,26 +117,34 @@ onward_least at =
     (λ above. omega (arith, onward-above at (ltb-true max_file at above)))
     (λ below. omega (arith, onward-within at (ltb-false max_file at below)))
 
-room_outside : (at : ℕ) (x out : List ℕ) → length out ≤ at → room_with at x out ≡ out
+pub room_outside : (at : ℕ) (x out : List ℕ) → length out ≤ at → room_with at x out ≡ out
 unfolding room_with
 room_outside at [] out h = refl
 room_outside at (b ∷ x) out h =
     ap (room_with (onward at) x) (set_out out at b h) ∙ room_outside (onward at) x out (omega (arith, onward_least at))
 
-pub puts_outside : {x out : List ℕ} {at n : ℕ} → n ≡ place_after at x → length out ≤ at → Puts x at out n out
-puts_outside {x} {out} {at} {n} e h = record { place = e; holds = sym (room_outside at x out h) }
+pub sets_outside : (l : List ℕ) (i : ℕ) (x : List ℕ) → length l ≤ i → sets l i x ≡ l
+sets_outside l i [] h = refl
+sets_outside l i (b ∷ x) h = ap (λ r. sets r (suc i) x) (set_out l i b h) ∙ sets_outside l (suc i) x (omega arith)
+
+-- a text put from the start stands there
+pub filled : (x room : List ℕ) → length x ≤ max_file → length x ≤ length room → room_with 0 x room ≡ placed x room
+unfolding placed
+filled x room h r =
+    let e : 0 + length x ≡ length x = omega arith in
+    room_within 0 x room (omega arith) ∙ sets-eq x room 0 (omega arith) ∙ ap (λ k. x ++ drop k room) e
 
 -- what was put from the start: its length is told exactly unless it is above the greatest length of a file, and then that is told
-pub measured : {x out o : List ℕ} {n : ℕ} → Puts x 0 out n o → length x ≤ max_file → n ≡ length x
-measured {x} {out} {o} {n} f h = omega (arith, f.place, place-within 0 x (omega arith))
+module _ {x : List ℕ} {out end : Output} (f : Puts x out end) (start : out.at ≡ 0) where
+  from : end.at ≡ place_after 0 x
+  from = f.place ∙ ap (λ k. place_after k x) start
 
-pub measured-above : {x out o : List ℕ} {n : ℕ} → Puts x 0 out n o → max_file < length x → max_file < n
-measured-above {x} {out} {o} {n} f h =
-    omega (arith, f.place, place-above 0 x (omega arith) (omega arith))
+  pub measured : length x ≤ max_file → end.at ≡ length x
+  measured h = omega (arith, from, place-within 0 x (omega arith))
 
--- and the room holds it at its start
-pub stands : {x out o : List ℕ} {n : ℕ} → Puts x 0 out n o → length x ≤ max_file → length x ≤ length out → o ≡ placed x out
-unfolding placed
-stands {x} {out} {o} {n} f h r =
-    let e : 0 + length x ≡ length x = omega arith in
-    f.holds ∙ room_within 0 x out (omega arith) ∙ sets-eq x out 0 (omega arith) ∙ ap (λ k. x ++ drop k out) e
+  pub measured-above : max_file < length x → max_file < end.at
+  measured-above h = omega (arith, from, place-above 0 x (omega arith) (omega arith))
+
+  -- and the room holds it at its start
+  pub stands : length x ≤ max_file → length x ≤ length out.room.now → end.room.now ≡ placed x out.room.now
+  stands h r = f.holds ∙ ap (λ k. room_with k x out.room.now) start ∙ filled x out.room.now h r

@@ -1,11 +1,14 @@
 -- A cue's text and its identifier by one definition.
-use Rattle.std.specs.Prelude.{ℕ, Bool, cond, List}
+use Rattle.std.specs.Prelude.{ℕ, List}
 use Rattle.format.specs.Rows.{cue_entry}
 use Rattle.format.specs.Parts.{identifier_of, text_of}
 use Rattle.format.specs.declared.settings.Span.{Span}
+use Rattle.parts.specs.declared.Part.{Part}
 
-abbrev pub place_of : List ℕ → Bool → Span
-place_of row text = cond text (cue_entry row).text (cue_entry row).id
+abbrev pub place_of : List ℕ → Part → Span
+place_of row Part.Identifier = (cue_entry row).id
+place_of row Part.Text = (cue_entry row).text
 
-abbrev pub handed_back : List ℕ → List (List ℕ) → ℕ → Bool → List ℕ
-handed_back s cues number text = cond text (text_of s cues number) (identifier_of s cues number)
+abbrev pub handed_back : List ℕ → List (List ℕ) → ℕ → Part → List ℕ
+handed_back s cues number Part.Identifier = identifier_of s cues number
+handed_back s cues number Part.Text = text_of s cues number

@@ -7,17 +7,14 @@ ghost use Rattle.format.specs.Plain.{first_not_plain};
 ghost use Rattle.parts.specs.Parts.{place_of, handed_back};
 ghost use Rattle.format.specs.Parts.{part_answer_is, asking, identifier_of, text_of};
 
+use format::PartError;
 use format::rows::CueRow;
 use format::settings::Span;
-use format::{PartAnswer, Plainness};
 
 fn is_plain(part: &[u8]) -> bool
     ensures { result ≡ not (ltb (first_not_plain part.now) (length part.now)) }
 {
-    match plain::first_not_plain(part) {
-        Plainness::Plain => true,
-        Plainness::NotPlainAt(_) => false,
-    }
+    plain::first_not_plain(part).is_none()
 }
 
 // Is the part from one place up to another inside the text, and plain.
@@ -49,31 +46,37 @@ pub fn test_1(text: &[u8], row: CueRow) -> bool
 }
 
 // What asking for a part of the cue with this number answers.
-pub fn ask(text: &[u8], cues: &[CueRow], number: usize) -> PartAnswer
+pub fn ask(text: &[u8], cues: &[CueRow], number: usize) -> Result<(), PartError>
     ensures { part_answer_is result ≡ asking text.now cues.now number }
 {
     if cues.len() <= number {
-        return PartAnswer::NoSuchCue(cues.len());
+        return Err(PartError::NoSuchCue(cues.len()));
     }
-    let row = cues[number];
-    if test_1(text, row) {
-        return PartAnswer::Part;
+    if !test_1(text, cues[number]) {
+        return Err(PartError::NotWritable(number));
     }
-    PartAnswer::NotWritable(number)
+    Ok(())
 }
 
-// Where a cue's text stands, or its identifier.
-fn place_of(row: CueRow, text: bool) -> Span
-    ensures { result ≡ place_of row text }
+// Which part of a cue is asked for.
+#[derive(Clone, Copy)]
+enum Part {
+    Identifier,
+    Text,
+}
+
+// Where that part of a cue stands.
+fn place_of(row: CueRow, wanted: Part) -> Span
+    ensures { result ≡ place_of row wanted }
 {
-    if text {
-        return rows::cues::text(row);
+    match wanted {
+        Part::Identifier => rows::cues::id(row),
+        Part::Text => rows::cues::text(row),
     }
-    rows::cues::id(row)
 }
 
 // The text or the identifier of the cue with this number; empty where the call is refused.
-fn hand_back<'a>(text: &'a [u8], cues: &[CueRow], number: usize, wanted: bool) -> &'a [u8]
+fn hand_back<'a>(text: &'a [u8], cues: &[CueRow], number: usize, wanted: Part) -> &'a [u8]
     ensures { result.now ≡ handed_back text.now cues.now number wanted }
 {
     if cues.len() <= number {
@@ -93,12 +96,12 @@ fn hand_back<'a>(text: &'a [u8], cues: &[CueRow], number: usize, wanted: bool) -
 pub fn identifier_of<'a>(text: &'a [u8], cues: &[CueRow], number: usize) -> &'a [u8]
     ensures { result.now ≡ identifier_of text.now cues.now number }
 {
-    hand_back(text, cues, number, false)
+    hand_back(text, cues, number, Part::Identifier)
 }
 
 // The text of the cue with this number; empty where the call is refused.
 pub fn text_of<'a>(text: &'a [u8], cues: &[CueRow], number: usize) -> &'a [u8]
     ensures { result.now ≡ text_of text.now cues.now number }
 {
-    hand_back(text, cues, number, true)
+    hand_back(text, cues, number, Part::Text)
 }

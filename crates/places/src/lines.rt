@@ -8,52 +8,40 @@ ghost use Rattle.places.specs.Places.{ends_line};
 pub fn raw_start(raw: &[u8], from: usize, n: usize) -> usize
     ensures { result ≡ from + raw_start (drop from raw.now) n }
 {
-    let mut i = from;
-    let mut k = 0;
-    while i < raw.len() {
-        if k == n {
+    let mut left = n;
+    for i in from..raw.len() {
+        if left == 0 {
             return i;
         }
         if ends_line(raw, i) {
-            k += 1;
+            left -= 1;
         }
-        i += 1;
     }
-    i
+    raw.len().max(from)
 }
 
 // Does a line end after the byte at a place: at LF, or at CR that is not before LF.
+#[tactic(auto, unfolding(crate::specs::Places::ends_line))]
 fn ends_line(raw: &[u8], at: usize) -> bool
     requires { at < length raw.now }
     ensures { result ≡ ends_line (get_or raw.now at 0) (drop (at + 1) raw.now) }
 {
-    let b = raw[at];
-    if b == b'\n' {
-        return true;
+    match raw[at] {
+        b'\n' => true,
+        b'\r' => !values::bytes::is_at(raw, at + 1, b'\n'),
+        _ => false,
     }
-    if b != b'\r' {
-        return false;
-    }
-    if at + 1 == raw.len() {
-        return true;
-    }
-    raw[at + 1] != b'\n'
 }
 
 // Where the line of a raw file ends that is `n` lines after the one that starts at `from`, its terminator excluded.
 pub fn raw_end(raw: &[u8], from: usize, n: usize) -> usize
     ensures { result ≡ from + raw_end (drop from raw.now) n }
 {
-    let mut i = raw_start(raw, from, n);
-    while i < raw.len() {
-        let b = raw[i];
-        if b == b'\n' {
+    let start = raw_start(raw, from, n);
+    for i in start..raw.len() {
+        if raw[i] == b'\n' || raw[i] == b'\r' {
             return i;
         }
-        if b == b'\r' {
-            return i;
-        }
-        i += 1;
     }
-    i
+    raw.len().max(start)
 }

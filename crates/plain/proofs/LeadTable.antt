@@ -3,7 +3,7 @@ use Prim.Native.Nat.{ℕ, zero, suc, ◌-◌, ◌≤◌, ◌<◌}
 use mathlib.Core.Path.{◌≡◌, refl, ap, ◌∙◌}
 use mathlib.Core.Bool.{Bool, true, false, cond, ◌&&◌, false≢true}
 use mathlib.Core.List.{List, [], ◌∷◌}
-use mathlib.Core.Option.{Option, none, some}
+use Rattle.std.specs.Prelude.{Option, None, Some}
 use native.Mathlib.Omega.{arith}
 use lib.Count.{count_leading_zeros}
 use lib.Dec.{leb, eqb, ltb}
@@ -22,10 +22,10 @@ same_ranges (r ∷ rs) [] = false
 same_ranges (r ∷ rs) (q ∷ qs) = same_range r q && same_ranges rs qs
 
 same_row : Option (List Range) → Option (List Range) → Bool
-same_row none none = true
-same_row none (some qs) = false
-same_row (some rs) none = false
-same_row (some rs) (some qs) = same_ranges rs qs
+same_row None None = true
+same_row None (Some qs) = false
+same_row (Some rs) None = false
+same_row (Some rs) (Some qs) = same_ranges rs qs
 
 range_is : (r q : Range) → same_range r q ≡ true → r ≡ q
 unfolding same_range
@@ -46,10 +46,10 @@ ranges_are (r ∷ rs) (q ∷ qs) e =
 
 row_is : (o p : Option (List Range)) → same_row o p ≡ true → o ≡ p
 unfolding same_row
-row_is none none e = refl
-row_is none (some qs) e = absurd (false≢true e)
-row_is (some rs) none e = absurd (false≢true e)
-row_is (some rs) (some qs) e = ap some (ranges_are rs qs e)
+row_is None None e = refl
+row_is None (Some qs) e = absurd (false≢true e)
+row_is (Some rs) None e = absurd (false≢true e)
+row_is (Some rs) (Some qs) e = ap Some (ranges_are rs qs e)
 
 -- a test that holds of every number below n
 all_below : ℕ → (ℕ → Bool) → Bool

@@ -1,48 +1,36 @@
--- The byte order mark, from the first three bytes of a slice.
-use Prim.Native.Nat.{ℕ, ◌≤◌, ◌<◌}
-use mathlib.Core.Path.{◌≡◌, refl, ◌∙◌}
+-- The byte order mark, by the test whether the first bytes are its own.
+use Prim.Native.Nat.{ℕ, ◌+◌, ◌≤◌}
+use mathlib.Core.Path.{◌≡◌, refl, ap, ◌∙◌}
 use mathlib.Core.Bool.{true, false, ◌&&◌}
 use mathlib.Core.List.{List, [], ◌∷◌}
 use native.Mathlib.Omega.{arith}
 use lib.Dec.{eqb}
-use lib.ListN.{length, get_or, drop}
-use borrow.Author.Tests.{eq-eqb, ne_eqb}
+use lib.ListN.{length, take, drop, length-drop}
+use denote.Ref.{Bor}
+use Rattle.std.specs.Prelude.{Option, None, Some, MatchOption}
+use Rattle.std.specs.Option.{unwrap_or}
+use Rattle.std.specs.Cmp.Lexicographic.{pointwise}
 use Rattle.format.specs.Bytes.{byte_order_mark}
 use Rattle.format.specs.Texts.{starts_with}
 use Rattle.format.specs.Plain.{drop_bom}
-use Rattle.laws.proofs.Tests.{and-false}
+use Rattle.laws.proofs.Tests.{by-test}
 
-marked : (s : List ℕ) → 3 ≤ length s → starts_with byte_order_mark s ≡ eqb (get_or s 0 0) 0xEF && (eqb (get_or s 1 0) 0xBB && (eqb (get_or s 2 0) 0xBF && true))
+starts_by : (p s : List ℕ) → starts_with p s ≡ pointwise eqb (take (length p) s) p
 unfolding starts_with
-marked [] h = absurd (omega arith)
-marked (a ∷ []) h = absurd (omega arith)
-marked (a ∷ (b ∷ [])) h = absurd (omega arith)
-marked (a ∷ (b ∷ (c ∷ s))) h = refl
+starts_by [] s = refl
+starts_by (c ∷ p) [] = refl
+starts_by (c ∷ p) (b ∷ s) = ap (λ t. eqb b c && t) (starts_by p s)
 
-keeps : (s : List ℕ) → starts_with byte_order_mark s ≡ false → drop_bom s ≡ s
+-- what is left where the mark is taken off, or the whole where it is not there
+pub mark_off :
+    (raw : Bor (List ℕ)) (rest : Option (Bor (List ℕ)))
+    → MatchOption rest (pointwise eqb (take 3 raw.now) byte_order_mark ≡ false)
+    (λ x. (pointwise eqb (take 3 raw.now) byte_order_mark ≡ true) × (x.now ≡ drop 3 raw.now) × (length x.now + 3 ≡ length raw.now))
+    → (unwrap_or rest raw).now ≡ drop_bom raw.now
 unfolding drop_bom
-keeps s n = rw n
+mark_off raw None n = rw (starts_by byte_order_mark raw.now ∙ n)
+mark_off raw (Some x) y = y.1 ∙ rw (starts_by byte_order_mark raw.now ∙ y.0)
 
-pub mark_short : (s : List ℕ) → length s < 3 → drop_bom s ≡ s
-unfolding starts_with
-mark_short [] h = keeps [] refl
-mark_short (a ∷ []) h = keeps (a ∷ []) (and-false (eqb a 0xEF) false refl)
-mark_short (a ∷ (b ∷ [])) h = keeps (a ∷ (b ∷ [])) (and-false (eqb a 0xEF) (eqb b 0xBB && false) (and-false (eqb b 0xBB) false refl))
-mark_short (a ∷ (b ∷ (c ∷ s))) h = absurd (omega arith)
-
-module _ (s : List ℕ) (h : 3 ≤ length s) where
-  pub mark_0 : (get_or s 0 0 ≡ 0xEF → ⊥) → drop_bom s ≡ s
-  mark_0 n = keeps s (marked s h ∙ rw (ne_eqb (get_or s 0 0) 0xEF n))
-
-  pub mark_1 : get_or s 0 0 ≡ 0xEF → (get_or s 1 0 ≡ 0xBB → ⊥) → drop_bom s ≡ s
-  mark_1 a n = keeps s (marked s h ∙ rw (eq-eqb (get_or s 0 0) 0xEF a, ne_eqb (get_or s 1 0) 0xBB n))
-
-  pub mark_2 : get_or s 0 0 ≡ 0xEF → get_or s 1 0 ≡ 0xBB → (get_or s 2 0 ≡ 0xBF → ⊥) → drop_bom s ≡ s
-  mark_2 a b n = keeps s (marked s h ∙ rw (eq-eqb (get_or s 0 0) 0xEF a, eq-eqb (get_or s 1 0) 0xBB b, ne_eqb (get_or s 2 0) 0xBF n))
-
-  pub mark_all : get_or s 0 0 ≡ 0xEF → get_or s 1 0 ≡ 0xBB → get_or s 2 0 ≡ 0xBF → drop_bom s ≡ drop 3 s
-  unfolding drop_bom
-  mark_all a b c =
-      let y : starts_with byte_order_mark s ≡ true =
-      marked s h ∙ rw (eq-eqb (get_or s 0 0) 0xEF a, eq-eqb (get_or s 1 0) 0xBB b, eq-eqb (get_or s 2 0) 0xBF c) in
-      rw y
+pub drop_bom-length : (s : List ℕ) → length (drop_bom s) ≤ length s
+unfolding drop_bom
+drop_bom-length s = by-test (starts_with byte_order_mark s) (λ y. rw y (omega (arith, length-drop 3 s))) (λ n. rw n (omega arith))

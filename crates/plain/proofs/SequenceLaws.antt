@@ -3,7 +3,7 @@ use Prim.Native.Nat.{ℕ, zero, suc, ◌+◌, ◌≤◌, ◌<◌}
 use mathlib.Core.Path.{◌≡◌, refl, ap, ◌∙◌}
 use mathlib.Core.Bool.{Bool, true, false, cond, false≢true}
 use mathlib.Core.List.{List, [], ◌∷◌}
-use mathlib.Core.Option.{some}
+use Rattle.std.specs.Prelude.{Some}
 use native.Mathlib.Omega.{arith}
 use lib.ListN.{length, get_or, drop, replicate, drop_of_length-le}
 use lib.Seq.{drop-cons, drop-drop}
@@ -46,13 +46,13 @@ module _ (s : List ℕ) (at : ℕ) (h : at < length s) (low high : ℕ) where
   next k = let e : at + k + 1 ≡ at + suc k = omega arith in drop-drop 1 (at + k) s ∙ ap (λ i. drop i s) e
 
   -- all ranges of the row fit, or the first n of them alone
-  kept : (rs : List Range) → following table (get_or s at 0) ≡ some rs → fits rs (drop (at + 1) s) ≡ length rs → Keep (suc (length rs)) ≡ run_of (drop at s)
+  kept : (rs : List Range) → following table (get_or s at 0) ≡ Some rs → fits rs (drop (at + 1) s) ≡ length rs → Keep (suc (length rs)) ≡ run_of (drop at s)
   unfolding kept_or
   kept rs e f = rw (drop-first s at h, sequence_of_lem (get_or s at 0) (drop (at + 1) s) rs e f)
 
   broken :
       (rs : List Range) (n : ℕ)
-      → following table (get_or s at 0) ≡ some rs
+      → following table (get_or s at 0) ≡ Some rs
       → fits rs (drop (at + 1) s) ≡ n
       → n < length rs
       → Replace (suc n) ≡ run_of (drop at s)
@@ -67,8 +67,8 @@ module _ (s : List ℕ) (at : ℕ) (h : at < length s) (low high : ℕ) where
   run_none len e z =
       let b = get_or s at 0 in
       let t = drop (at + 1) s in
-      let none = row_of_lem len 0 e z in
-      rw (drop-first s at h, sequence-none b t none, begun-none b t none)
+      let None = row_of_lem len 0 e z in
+      rw (drop-first s at h, sequence-none b t None, begun-none b t None)
 
   pub run-one : (len : ℕ) → Row len → len ≡ 1 → Keep 1 ≡ run_of (drop at s)
   unfolding row_of fits

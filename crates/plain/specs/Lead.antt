@@ -1,13 +1,13 @@
 -- What is known of a sequence from its first byte, as three numbers, and the test of the bytes after it.
 use Rattle.std.specs.Prelude.{ℕ, zero, suc, Bool, false, cond, List, [], ◌∷◌, eqb, replicate}
-use Rattle.std.proofs.Math.Option.{Option, none, some}
+use Rattle.std.specs.Prelude.{Option, None, Some}
 use Rattle.format.specs.Plain.{Range, ◌to◌, within}
 
 -- the row of a first byte: the sequence's length (0: it begins none), and the range of the second byte
 unfoldable pub row_of : ℕ → ℕ → ℕ → Option (List Range)
-row_of zero low high = none
-row_of (suc zero) low high = some []
-row_of (suc (suc n)) low high = some (low to high ∷ replicate n (0x80 to 0xBF))
+row_of zero low high = None
+row_of (suc zero) low high = Some []
+row_of (suc (suc n)) low high = Some (low to high ∷ replicate n (0x80 to 0xBF))
 
 -- where the second byte's range starts and ends
 abbrev pub low_of : ℕ → ℕ

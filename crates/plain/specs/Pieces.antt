@@ -1,6 +1,7 @@
 -- Pieces of a raw file: how far each reaches, and what it becomes.
-use Rattle.std.specs.Prelude.{ℕ, zero, suc, ◌+◌, ◌≤◌, ◌<◌, ◌≡◌, List, [], ◌∷◌, ◌++◌, length, take, drop}
+use Rattle.std.specs.Prelude.{ℕ, zero, suc, ◌+◌, ◌≤◌, ◌<◌, ◌≡◌, cond, List, [], ◌∷◌, ◌++◌, length, take, drop}
 use Rattle.format.specs.Bytes.{nul, lf, cr, replacement}
+use Rattle.format.specs.Texts.{starts_with}
 use Rattle.format.specs.Plain.{sequence, begun, to_plain}
 use Rattle.plain.specs.declared.pieces.Piece.{Piece}
 use Rattle.plain.specs.declared.pieces.Piece.TheVariants.{Keep, Replace, Line, Pair}
@@ -38,6 +39,12 @@ kept_or (suc m) n = Keep (suc m)
 -- what stands at the start of these bytes, no NUL and no CR: a sequence, or the longest run that could have begun one
 abbrev pub run_of : List ℕ → Piece
 run_of s = kept_or (sequence s) (suc (begun s))
+
+-- what stands at the start of these bytes
+unfoldable pub piece_of : List ℕ → Piece
+piece_of s =
+    cond (starts_with (nul ∷ []) s) (Replace 1)
+    (cond (starts_with (cr ∷ []) s) (cond (starts_with (lf ∷ []) (drop 1 s)) Pair Line) (run_of s))
 
 -- the piece stands at this place: it takes at least one byte, stays within the file, and the text goes on after it
 pub record Stands (s : List ℕ) (at : ℕ) (p : Piece) : Type 0 where

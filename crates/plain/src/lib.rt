@@ -7,69 +7,54 @@ ghost use Rattle.format.specs.Plain.{drop_bom, to_plain, first_not_plain};
 ghost use Rattle.format.specs.Answers.{placed};
 ghost use Rattle.format.specs.Converting.{converted_is, converting, converted_room, plainness_is, testing};
 
-use format::{Converted, Plainness};
+use format::ConvertError;
 use pieces::Piece;
 
 mod pieces;
 mod sequences;
 
 // The plain text of a raw file, at the start of the room.
-pub fn convert(raw: &[u8], room: &mut [u8]) -> Converted
+pub fn convert(raw: &[u8], room: &mut [u8]) -> Result<usize, ConvertError>
     ensures answer { converted_is result ≡ converting raw.now (length room.old) }
     ensures room { room.new ≡ converted_room raw.now room.old }
 {
     if raw.len() > format::MAX_FILE {
-        return Converted::TooLong;
+        return Err(ConvertError::TooLong);
     }
-    let from = mark_len(raw);
+    let bytes = without_mark(raw);
     // A room of three times the length is always enough, and then the bytes are gone over once.
     if room.len() < 3 * raw.len() {
-        let need = measure(raw, from);
+        let need = measure(bytes);
         if room.len() < need {
-            return Converted::RoomTooShort(need);
+            return Err(ConvertError::RoomTooShort(need));
         }
     }
-    Converted::Text(write(raw, from, room))
+    Ok(write(bytes, room))
 }
 
-// The first place of a text that holds CR, NUL or a byte of no well-formed sequence.
-pub fn first_not_plain(text: &[u8]) -> Plainness
+// The first place of a text that holds CR, NUL or a byte of no well-formed sequence; none where the text is plain.
+pub fn first_not_plain(text: &[u8]) -> Option<usize>
     ensures { plainness_is result ≡ testing text.now }
 {
     let at = plain_len(text);
-    if at < text.len() {
-        Plainness::NotPlainAt(at)
-    } else {
-        Plainness::Plain
-    }
+    if at < text.len() { Some(at) } else { None }
 }
 
-// The length of the byte order mark that the file starts with: 3, or 0 where it has none.
-fn mark_len(s: &[u8]) -> usize
-    ensures { (result ≤ length s.now) × (drop_bom s.now ≡ drop result s.now) }
+// The file's bytes after the byte order mark that it may start with.
+fn without_mark(raw: &[u8]) -> &[u8]
+    ensures { result.now ≡ drop_bom raw.now }
 {
-    if s.len() < 3 {
-        return 0;
-    }
-    if s[0] != 0xEF {
-        return 0;
-    }
-    if s[1] != 0xBB {
-        return 0;
-    }
-    if s[2] != 0xBF {
-        return 0;
-    }
-    3
+    raw.strip_prefix(b"\xEF\xBB\xBF").unwrap_or(raw)
 }
 
-// The length of the text that the bytes from `from` on give.
-fn measure(s: &[u8], from: usize) -> usize
-    requires { (from ≤ length s.now) × (length s.now ≤ max_file) }
-    ensures { result ≡ length (to_plain (drop from s.now)) }
+// The length of the text that the bytes give.
+fn measure(s: &[u8]) -> usize
+    requires { length s.now ≤ max_file }
+    ensures { result ≡ length (to_plain s.now) }
 {
-    let mut i = from;
+    let mut i = 0;
     let mut n: usize = 0;
+    // A `while`: a turn passes one piece, of one byte or more.
     while i < s.len() {
         if pieces::stays(s[i]) {
             i += 1;
@@ -84,12 +69,13 @@ fn measure(s: &[u8], from: usize) -> usize
 }
 
 // Writes that text at the start of the room, which is long enough, and hands back its length.
-fn write(s: &[u8], from: usize, room: &mut [u8]) -> usize
-    requires { (from ≤ length s.now) × (length (to_plain (drop from s.now)) ≤ length room.old) }
-    ensures { (result ≡ length (to_plain (drop from s.now))) × (room.new ≡ placed (to_plain (drop from s.now)) room.old) }
+fn write(s: &[u8], room: &mut [u8]) -> usize
+    requires { length (to_plain s.now) ≤ length room.old }
+    ensures { (result ≡ length (to_plain s.now)) × (room.new ≡ placed (to_plain s.now) room.old) }
 {
-    let mut i = from;
+    let mut i = 0;
     let mut n: usize = 0;
+    // A `while`, as in `measure`.
     while i < s.len() {
         let b = s[i];
         if pieces::stays(b) {
@@ -111,18 +97,12 @@ fn plain_len(s: &[u8]) -> usize
     ensures { result ≡ first_not_plain s.now }
 {
     let mut i = 0;
+    // A `while`, as in `measure`.
     while i < s.len() {
-        let b = s[i];
-        if pieces::stays(b) {
+        if pieces::stays(s[i]) {
             i += 1;
         } else {
-            if b == 0 {
-                return i;
-            }
-            if b == 0x0D {
-                return i;
-            }
-            match sequences::run_at(s, i) {
+            match pieces::piece_at(s, i) {
                 Piece::Keep(n) => i += n,
                 _ => return i,
             }

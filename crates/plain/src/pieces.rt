@@ -1,8 +1,9 @@
 // A raw file piece by piece: what stands at a place, how far it reaches and what it becomes.
-ghost use Rattle.std.specs.Prelude.{◌≡◌, true, ◌+◌, ◌<◌, ◌≤◌, length, get_or, take, drop};
+ghost use Rattle.std.specs.Prelude.{◌≡◌, true, ◌+◌, ◌<◌, ◌≤◌, length, take, drop};
 ghost use Rattle.std.proofs.lemmas.List.Edits.{sets};
-ghost use Rattle.format.specs.Bytes.{cr};
-ghost use Rattle.plain.specs.Pieces.{Stays, taken_by, put_by, size_of, Stands};
+ghost use Rattle.plain.specs.Pieces.{Stays, taken_by, put_by, size_of, piece_of};
+
+use super::sequences;
 
 #[derive(Clone, Copy)]
 pub enum Piece {
@@ -45,48 +46,29 @@ impl Piece {
 pub(crate) fn stays(b: u8) -> bool
     ensures { result ≡ true → Stays b }
 {
-    if 0x0D < b && b < 0x80 {
-        return true;
-    }
-    b == b'\n'
+    matches!(b, b'\n' | 0x0E..0x80)
 }
 
-// A CR at `at`, with LF after it or not.
-fn line_end(s: &[u8], at: usize) -> Piece
-    requires { (at < length s.now) × (get_or s.now at 0 ≡ cr) }
-    ensures { Stands s.now at result }
-{
-    if at + 1 < s.len() {
-        if s[at + 1] == 0x0A {
-            return Piece::Pair;
-        }
-    }
-    Piece::Line
-}
-
+// What stands at a place.
 pub(crate) fn piece_at(s: &[u8], at: usize) -> Piece
     requires { at < length s.now }
-    ensures { Stands s.now at result }
+    ensures { result ≡ piece_of (drop at s.now) }
 {
-    let b = s[at];
-    if b == 0x0D {
-        return line_end(s, at);
+    match s[at] {
+        0 => Piece::Replace(1),
+        b'\r' if s.get(at + 1) == Some(&b'\n') => Piece::Pair,
+        b'\r' => Piece::Line,
+        _ => sequences::run_at(s, at),
     }
-    if b == 0 {
-        return Piece::Replace(1);
-    }
-    super::sequences::run_at(s, at)
 }
 
-// Copies `n` bytes of `s` from `at` on into the room, from `to` on.
+// Copies `n` bytes of `s` from `at` on into the room, from `to` on. A piece has four bytes at most: `copy_from_slice` takes half again as long.
 fn copy(s: &[u8], at: usize, n: usize, room: &mut [u8], to: usize)
     requires { (at + n ≤ length s.now) × (to + n ≤ length room.old) }
     ensures { room.new ≡ sets room.old to (take n (drop at s.now)) }
 {
-    let mut i = 0;
-    while i < n {
+    for i in 0..n {
         room[to + i] = s[at + i];
-        i += 1;
     }
 }
 
@@ -97,12 +79,13 @@ pub(crate) fn put(s: &[u8], at: usize, p: Piece, room: &mut [u8], to: usize)
 {
     match p {
         Piece::Keep(n) => copy(s, at, n, room, to),
+        // Three stores: `copy_from_slice` of the three bytes takes a tenth more steps.
         Piece::Replace(_) => {
             room[to] = 0xEF;
             room[to + 1] = 0xBF;
             room[to + 2] = 0xBD;
         }
-        Piece::Line => room[to] = 0x0A,
+        Piece::Line => room[to] = b'\n',
         Piece::Pair => {}
     }
 }

@@ -32,25 +32,21 @@ impl Lead {
 fn low(b: u8) -> u8
     ensures { result ≡ low_of b }
 {
-    if b == 0xE0 {
-        return 0xA0;
+    match b {
+        0xE0 => 0xA0,
+        0xF0 => 0x90,
+        _ => 0x80,
     }
-    if b == 0xF0 {
-        return 0x90;
-    }
-    0x80
 }
 
 fn high(b: u8) -> u8
     ensures { result ≡ high_of b }
 {
-    if b == 0xED {
-        return 0x9F;
+    match b {
+        0xED => 0x9F,
+        0xF4 => 0x8F,
+        _ => 0xBF,
     }
-    if b == 0xF4 {
-        return 0x8F;
-    }
-    0xBF
 }
 
 // The length is the number of leading one bits of the first byte; C0, C1 and F5 to FF begin no sequence.

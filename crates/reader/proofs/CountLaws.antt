@@ -13,15 +13,15 @@ use Rattle.laws.proofs.Tests.{or_true, or_false}
 use Rattle.blocks.specs.declared.items.Item as Read
 use Rattle.blocks.specs.declared.items.Item.TheVariants as Made
 use Rattle.blocks.specs.Items.{item_is}
-use Rattle.reader.specs.declared.counting.Counts.{Counts}
-use Rattle.reader.specs.declared.counting.Tally.TheVariants as Tally
+use Rattle.std.specs.Prelude.{Ok, Err}
+use Rattle.format.specs.declared.Counts.{Counts}
 use Rattle.reader.specs.Counting.{with_item, tally_with}
 
-pub tally_end : (n : Counts) → tally_with n [] ≡ Tally.Counts n
+pub tally_end : (n : Counts) → tally_with n [] ≡ Ok n
 unfolding tally_with any_over listed
 tally_end n = rw (add-zero n.cues, add-zero n.regions, add-zero n.styles)
 
-pub tally_over : (n : Counts) (i : Item) (is : List Item) → item_over i ≡ true → tally_with n (i ∷ is) ≡ Tally.Over
+pub tally_over : (n : Counts) (i : Item) (is : List Item) → item_over i ≡ true → tally_with n (i ∷ is) ≡ Err (record {})
 unfolding tally_with any_over
 tally_over n i is e = rw e
 

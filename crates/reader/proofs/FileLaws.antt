@@ -12,37 +12,14 @@ use Rattle.laws.proofs.Answers.{after_test}
 use Rattle.format.specs.Answers.{Answer, accepted, refused, if_accepted, and_then}
 use Rattle.format.specs.Limits.{max_file, max_text}
 use Rattle.format.specs.Plain.{plain_text, first_not_plain}
-use Rattle.format.specs.Converting.{converting}
+use Rattle.format.specs.Converting.{convert_error, converting}
 use Rattle.format.specs.Blocks.{has_signature}
 use Rattle.format.specs.Lists.{items, lists, any_over}
-use Rattle.format.specs.Reading.{reading_is, counts, reading, file_reading_is}
-use Rattle.format.specs.declared.Reading.{Reading}
-use Rattle.reader.specs.Files.{file_told_is}
-
--- a refusal by another number is not by this test
-other : (t : Bool) (n k : ℕ) (us vs : List ℕ) (a : Answer) → (n ≡ k → ⊥) → refused n us ≡ cond t (refused k vs) a → refused n us ≡ a
-other true n k us vs a never e = absurd (never cc)
-other false n k us vs a never e = e
-
--- a plain text is not refused by 3
-pub plain_read :
-    (s : List ℕ) (cues regions styles : ℕ) (r : Reading)
-    → length s ≤ first_not_plain s
-    → reading_is r ≡ reading s cues regions styles
-    → (i : ℕ)
-    → r ≡ Reading.TextNotPlainAt i
-    → ⊥
-unfolding reading_is reading
-plain_read s cues regions styles r l e i is =
-    let l₀ = lists s in
-    let short = ltb cues (length l₀.cues) || ltb regions (length l₀.regions) || ltb styles (length l₀.styles) in
-    let told : refused 3 (i ∷ []) ≡ cond (ltb max_text (length s)) (refused 1 []) _ = rw (is, le-ltb (first_not_plain s) (length s) l) at e in
-    let sized = other (ltb max_text (length s)) 3 1 (i ∷ []) [] _ (λ z. omega arith) told in
-    let signed = other (not (has_signature s)) 3 4 (i ∷ []) [] _ (λ z. omega arith) sized in
-    let within = other (any_over (items s)) 3 5 (i ∷ []) [] _ (λ z. omega arith) signed in
-    let fits : refused 3 (i ∷ []) ≡ accepted (counts l₀) = other short 3 6 (i ∷ []) (counts l₀) _ (λ z. omega arith) within in
-    let z : ◌≡◌ {A = ℕ} 0 1 = cc in
-    omega arith
+use Rattle.format.specs.Reading.{text_error, lists_error, counts_told, count_values, file_lists_told, counts, reading, reading_raw, file_reading, after_reading}
+use Rattle.format.specs.declared.Counts.{Counts}
+use Rattle.format.specs.declared.errors.ConvertError.{ConvertError}
+use Rattle.format.specs.declared.errors.TextError.{TextError}
+use Rattle.format.specs.declared.errors.ListsError.{ListsError}
 
 -- only the counts of the lists are accepted
 same_values : (vs us : List ℕ) → accepted vs ≡ accepted us → vs ≡ us
@@ -76,15 +53,25 @@ module _ (raw : List ℕ) (room : ℕ) {n : ℕ} (a : accepted (n ∷ []) ≡ co
 
 -- what the text told, and its length, is what the file tells
 pub told :
-    (s : List ℕ) (cues regions styles n : ℕ) (r : Reading)
-    → length s ≤ first_not_plain s
-    → reading_is r ≡ reading s cues regions styles
-    → n ≡ length s
-    → file_reading_is (file_told_is r n) ≡ and_then (reading s cues regions styles) (accepted (counts (lists s) ++ length s ∷ []))
-unfolding reading_is file_reading_is and_then if_accepted
-told s cues regions styles n (Reading.Lists c r t) l e z = rw (← e, ← (counted s cues regions styles (c ∷ r ∷ t ∷ []) e), z) refl
-told s cues regions styles n Reading.TextTooLong l e z = rw (← e) refl
-told s cues regions styles n (Reading.TextNotPlainAt i) l e z = absurd (plain_read s cues regions styles (Reading.TextNotPlainAt i) l e i refl)
-told s cues regions styles n Reading.NoSignature l e z = rw (← e) refl
-told s cues regions styles n Reading.OverLimit l e z = rw (← e) refl
-told s cues regions styles n (Reading.TablesTooShort c r t) l e z = rw (← e) refl
+    (s : List ℕ) (cues regions styles : ℕ) (n : Counts) (k : ℕ)
+    → counts_told n ≡ reading s cues regions styles
+    → k ≡ length s
+    → file_lists_told (record { counts = n; text = k }) ≡ and_then (reading s cues regions styles) (accepted (counts (lists s) ++ length s ∷ []))
+unfolding counts_told file_lists_told and_then if_accepted
+told s cues regions styles n k e z = rw (← e, ← (counted s cues regions styles (count_values n) e), z)
+
+pub not_told : (e : ListsError) (b : Answer) → lists_error e ≡ and_then (lists_error e) b
+unfolding lists_error text_error and_then if_accepted
+not_told (ListsError.Text TextError.NoSignature) b = refl
+not_told (ListsError.Text TextError.OverLimit) b = refl
+not_told (ListsError.TablesTooShort n) b = refl
+
+-- where converting refuses, so does reading the file, and no table changes
+pub no_file :
+    (raw : List ℕ) (room cues regions styles : ℕ) (e : ConvertError)
+    → convert_error e ≡ converting raw room
+    → (convert_error e ≡ file_reading raw room cues regions styles)
+    × ((rows table : List (List ℕ)) → table ≡ after_reading (reading_raw raw room cues regions styles) rows table)
+unfolding convert_error file_reading reading_raw and_then if_accepted after_reading
+no_file raw room cues regions styles ConvertError.TooLong h = rw (← h) (refl, λ rows table. refl)
+no_file raw room cues regions styles (ConvertError.RoomTooShort n) h = rw (← h) (refl, λ rows table. refl)

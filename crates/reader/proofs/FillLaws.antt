@@ -16,7 +16,7 @@ use Rattle.format.specs.Lists.{Cue, Item, nothing, cue, style, region, is_cue, i
 use Rattle.format.specs.Contents.{region_of_entry}
 use Rattle.format.specs.Writable.{names_of}
 use Rattle.format.specs.Replacing.{region_asked}
-use Rattle.format.specs.Rows.{cue_words, region_words, style_words, ids, index_is, region_for, entry_is, cue_rows, region_rows, style_rows, stored_cues}
+use Rattle.format.specs.Rows.{cue_words, region_words, style_words, ids, region_for, entry_is, cue_rows, region_rows, style_rows, stored_cues}
 use Rattle.format.specs.LineNumbers.{block_of_cue, cue_blocks_from, cue_blocks, line_span, line_spans}
 use Rattle.format.specs.declared.rows.LineSpan.{LineSpan}
 use Rattle.laws.proofs.Tests.{or_true, or_first, or_second}
@@ -25,9 +25,9 @@ use Rattle.laws.proofs.Standing.{Stands, All, CueStands, ItemStands, items_stand
 use Rattle.laws.proofs.Lists.{no_regions-after}
 use Rattle.laws.proofs.Rows.{stands_bytes, stored-length}
 use Rattle.lookup.specs.Known.{asked_at}
-use Rattle.blocks.specs.declared.collecting.Stop.{Stop}
+use Rattle.blocks.specs.declared.collecting.Block.{Block}
 use Rattle.blocks.specs.Items.{meaning_at, NextAt, cue_is, item_is}
-use Rattle.reader.specs.declared.counting.Counts.{Counts}
+use Rattle.format.specs.declared.Counts.{Counts}
 use Rattle.reader.specs.Counting.{with_item}
 use Rattle.reader.specs.Filling.{entry_of, cues_with, regions_with, styles_with, RoomFor}
 use Rattle.blocks.proofs.WalkLaws.{fresh, items-next, cues-next, moves}
@@ -43,7 +43,7 @@ region-found :
     (s : List ℕ) (rs : List RegionValues) (name : Part)
     → All (λ r. Stands s r.id) rs
     → Stands s name
-    → asked_at s (region_rows rs) (span_is name) ≡ index_is (region_for rs name)
+    → asked_at s (region_rows rs) (span_is name) ≡ (region_for rs name)
 unfolding region_for region_asked
 region-found s rs name all h = rw (stands_bytes s name h, rows-ids s rs all)
 
@@ -184,27 +184,27 @@ module _ (s : List ℕ) (cues₀ regions₀ styles₀ : List (List ℕ)) where
             });
       }
 
-  module _ (at from : ℕ) (st : Stop) (next : NextAt s at from st) (n : Counts) (cues regions styles : List (List ℕ)) (f : Filled at n cues regions styles) (fits : Fits s cues₀ regions₀ styles₀) where
+  module _ (at : ℕ) (b : Block) (next : NextAt s at b) (n : Counts) (cues regions styles : List (List ℕ)) (f : Filled at n cues regions styles) (fits : Fits s cues₀ regions₀ styles₀) where
     abbrev seen : Bool
     seen = ltb 0 n.cues
 
     abbrev item : Item
-    item = meaning_at seen s from st
+    item = meaning_at seen s b
 
     abbrev beyond : List Item
-    beyond = items_from (seen || is_cue item) (fresh s st.at)
+    beyond = items_from (seen || is_cue item) (fresh s b.stop.at)
 
     abbrev block : List Line
     block = next.block.lines
 
     abbrev later_cues : List (List Line)
-    later_cues = cue_blocks_from (seen || is_cue item) (fresh s st.at)
+    later_cues = cue_blocks_from (seen || is_cue item) (fresh s b.stop.at)
 
     now_stored : Stored n (item ∷ beyond) (block_of_cue item block ++ later_cues) cues regions styles
-    now_stored = rw (items-next s at from st seen next, cues-next s at from st seen next) at f.stored
+    now_stored = rw (items-next s at b seen next, cues-next s at b seen next) at f.stored
 
     only : is_cue item ≡ true → (listed beyond).regions ≡ []
-    only y = rw (y, or_true seen) (no_regions-after (fresh s st.at))
+    only y = rw (y, or_true seen) (no_regions-after (fresh s b.stop.at))
 
     within : item_over item ≡ false
     unfolding any_over
@@ -216,9 +216,9 @@ module _ (s : List ℕ) (cues₀ regions₀ styles₀ : List (List ℕ)) where
     pub fill_next :
         (lines : LineSpan)
         → lines ≡ line_span block
-        → Filled st.at (with_item (item_is item) n) (cues_with s (item_is item) lines n regions cues) (regions_with (item_is item) n regions) (styles_with (item_is item) n styles)
+        → Filled b.stop.at (with_item (item_is item) n) (cues_with s (item_is item) lines n regions cues) (regions_with (item_is item) n regions) (styles_with (item_is item) n styles)
     fill_next lines e =
-        let far = moves s at from st next in
+        let far = moves s at b next in
         let most = with_most (item_is item) n in
         record {
           inside = next.block.inside;

@@ -1,8 +1,9 @@
 -- The answer of reading, by the tests that the code makes one after the other.
-use Prim.Native.Nat.{ℕ, ◌≤◌, ◌<◌}
+use Prim.Native.Nat.{ℕ, ◌+◌, ◌≤◌, ◌<◌}
 use mathlib.Core.Path.{◌≡◌, refl, sym}
-use mathlib.Core.Bool.{true, false, ◌||◌}
+use mathlib.Core.Bool.{Bool, true, false, ◌||◌}
 use mathlib.Core.List.{List, [], ◌∷◌}
+use mathlib.Core.Logic.{◌⊎◌, inl, inr}
 use native.Mathlib.Omega.{arith}
 use lib.Dec.{ltb}
 use lib.ListN.{length}
@@ -12,110 +13,122 @@ use Rattle.format.specs.Plain.{first_not_plain}
 use Rattle.format.specs.Blocks.{has_signature}
 use Rattle.format.specs.Lists.{items, lists, any_over}
 use Rattle.format.specs.Rows.{region_rows, style_rows, stored_cues}
-use Rattle.format.specs.Answers.{refused, if_accepted, placed}
+use Rattle.format.specs.Answers.{Answer, refused, if_accepted, placed}
 use Rattle.format.specs.Converting.{plainness_is, testing}
-use Rattle.format.specs.Reading.{reading_is, reading, counts, after_reading}
-use Rattle.format.specs.declared.Reading.{Reading}
+use Rattle.std.specs.Prelude.{Some, Ok, Err}
+use Rattle.format.specs.Reading.{text_error, lists_error, read_error, counts_told, count_values, reading, counts, after_reading}
+use Rattle.format.specs.declared.Counts.{Counts}
+use Rattle.format.specs.declared.errors.OverLimit.{OverLimit}
+use Rattle.format.specs.declared.errors.TextError.{TextError}
+use Rattle.format.specs.declared.errors.ListsError.{ListsError}
+use Rattle.format.specs.declared.errors.ReadError.{ReadError}
 use Rattle.laws.proofs.Answers.{not_plain}
 use Rattle.laws.proofs.Tests.{by-test, or_first, or_second}
-use Rattle.reader.specs.Counting.{tally_with, tally_is, counted_is, Readable, Refused, MeasuredIs}
+use Rattle.reader.specs.Counting.{tally_with, tally_is, Readable, Refused}
 
 module _ (s : List ℕ) where
-  pub too_long_lem : ltb max_text (length s) ≡ true → Refused s Reading.TextTooLong
-  unfolding reading reading_is
+  pub too_long_lem : ltb max_text (length s) ≡ true → Refused s (read_error ReadError.TooLong)
+  unfolding reading read_error
   too_long_lem y a b c = rw y
 
   module _ (size : ltb max_text (length s) ≡ false) where
-    pub refused-plain : (i : ℕ) → ltb (first_not_plain s) (length s) ≡ true → first_not_plain s ≡ i → Refused s (Reading.TextNotPlainAt i)
-    unfolding reading reading_is
+    pub refused-plain : (i : ℕ) → ltb (first_not_plain s) (length s) ≡ true → first_not_plain s ≡ i → Refused s (read_error (ReadError.NotPlainAt i))
+    unfolding reading read_error
     refused-plain i y e a b c = rw (size, y, e)
 
     module _ (plain : ltb (first_not_plain s) (length s) ≡ false) where
-      pub unsigned : has_signature s ≡ false → Refused s Reading.NoSignature
-      unfolding reading reading_is
+      pub unsigned : has_signature s ≡ false → Refused s (text_error TextError.NoSignature)
+      unfolding reading text_error
       unsigned n a b c = rw (size, plain, n)
 
-      pub measured : has_signature s ≡ true → MeasuredIs s (counted_is (tally_is (items s)))
-      unfolding reading reading_is tally_with lists
-      measured y =
+      pub over_limit : has_signature s ≡ true → (e : OverLimit) → tally_is (items s) ≡ Err e → Refused s (text_error TextError.OverLimit)
+      unfolding reading text_error tally_with
+      over_limit y e told a b c =
           by-test (any_over (items s))
-          (λ over. rw over (λ a b c. rw (size, plain, y, over)))
-          (λ within. rw within
-          (record { size = size; plain = plain; signature = y; within = within; cues_are = omega arith; regions_are = omega arith; styles_are = omega arith }))
+          (λ over. rw (size, plain, y, over))
+          (λ within. let z : ◌≡◌ {A = ℕ} 0 1 = let k = rw within at told in cc in absurd (omega arith))
+
+      pub measured : has_signature s ≡ true → (n : Counts) → tally_is (items s) ≡ Ok n → Readable s n
+      unfolding tally_with lists
+      measured y n told =
+          by-test (any_over (items s))
+          (λ over. let z : ◌≡◌ {A = ℕ} 0 1 = let k = rw over at told in cc in absurd (omega arith))
+          (λ within. let k = rw within at told in
+          let are : record { cues = 0 + length (lists s).cues; regions = 0 + length (lists s).regions; styles = 0 + length (lists s).styles } ≡ n = cc in
+          record {
+            size = size;
+            plain = plain;
+            signature = y;
+            within = within;
+            cues_are = rw (← are) (omega arith);
+            regions_are = rw (← are) (omega arith);
+            styles_are = rw (← are) (omega arith);
+          })
 
 -- a refusal that the text gives is the answer, whatever the tables' lengths, and no table changes
-pub record Refuses (s : List ℕ) (r : Reading) : Type 0 where
-  pub answer : (cues regions styles : ℕ) → reading_is r ≡ reading s cues regions styles
-  pub unchanged : (rows table : List (List ℕ)) → table ≡ after_reading (reading_is r) rows table
+module _ (s : List ℕ) (cues regions styles : List (List ℕ)) where
+  abbrev pub Unchanged : Answer → Type 0
+  Unchanged a =
+      (a ≡ reading s (length cues) (length regions) (length styles))
+      × ((cues ≡ after_reading a (stored_cues s) cues)
+      × ((regions ≡ after_reading a (region_rows (lists s).regions) regions)
+      × (styles ≡ after_reading a (style_rows (lists s).styles) styles)))
 
-pub refuses : (s : List ℕ) (r : Reading) → MeasuredIs s r → ((x y z : ℕ) → r ≡ Reading.Lists x y z → ⊥) → Refuses s r
-unfolding reading_is after_reading if_accepted
-refuses s (Reading.Lists c r t) m k = absurd (k c r t refl)
-refuses s Reading.TextTooLong m k = record { answer = λ a b c. sym (m a b c); unchanged = λ rows table. refl }
-refuses s (Reading.TextNotPlainAt i) m k = record { answer = λ a b c. sym (m a b c); unchanged = λ rows table. refl }
-refuses s Reading.NoSignature m k = record { answer = λ a b c. sym (m a b c); unchanged = λ rows table. refl }
-refuses s Reading.OverLimit m k = record { answer = λ a b c. sym (m a b c); unchanged = λ rows table. refl }
-refuses s (Reading.TablesTooShort c r t) m k = absurd m
+  pub text_refuses : (e : TextError) → Refused s (text_error e) → Unchanged (text_error e)
+  unfolding text_error after_reading if_accepted
+  text_refuses TextError.NoSignature m = (sym (m (length cues) (length regions) (length styles)), (refl, (refl, refl)))
+  text_refuses TextError.OverLimit m = (sym (m (length cues) (length regions) (length styles)), (refl, (refl, refl)))
 
--- the two refusals that are given before the text is known to be plain
-pub refuses_long : (s : List ℕ) → max_text < length s → Refuses s Reading.TextTooLong
-unfolding reading_is after_reading if_accepted
-refuses_long s h = record { answer = λ a b c. sym (too_long_lem s (lt-ltb max_text (length s) h) a b c); unchanged = λ rows table. refl }
+  -- the two refusals that are given before the text is known to be plain
+  pub refuses_long : max_text < length s → Unchanged (read_error ReadError.TooLong)
+  unfolding read_error after_reading if_accepted
+  refuses_long h = (sym (too_long_lem s (lt-ltb max_text (length s) h) (length cues) (length regions) (length styles)), (refl, (refl, refl)))
 
-pub refuses_not-plain : (s : List ℕ) (i : ℕ) → length s ≤ max_text → refused 3 (i ∷ []) ≡ testing s → Refuses s (Reading.TextNotPlainAt i)
-unfolding reading_is after_reading if_accepted plainness_is
-refuses_not-plain s i h e =
-    let told = not_plain s i e in
-    let size = le-ltb max_text (length s) h in
-    record { answer = λ a b c. sym (refused-plain s size i told.0 told.1 a b c); unchanged = λ rows table. refl }
+  pub refuses_not-plain : (i : ℕ) → length s ≤ max_text → plainness_is (Some i) ≡ testing s → Unchanged (read_error (ReadError.NotPlainAt i))
+  unfolding read_error after_reading if_accepted
+  refuses_not-plain i h e =
+      let told = not_plain s i e in
+      let size = le-ltb max_text (length s) h in
+      (sym (refused-plain s size i told.0 told.1 (length cues) (length regions) (length styles)), (refl, (refl, refl)))
 
--- a refusal, with the tables as they were
-pub nothing_changes :
-    (s : List ℕ) (r : Reading)
-    → Refuses s r
-    → (cues regions styles : List (List ℕ))
-    → (reading_is r ≡ reading s (length cues) (length regions) (length styles))
-    × ((cues ≡ after_reading (reading_is r) (stored_cues s) cues)
-    × ((regions ≡ after_reading (reading_is r) (region_rows (lists s).regions) regions)
-    × (styles ≡ after_reading (reading_is r) (style_rows (lists s).styles) styles)))
-nothing_changes s r refusal cues regions styles = (
-  refusal.answer (length cues) (length regions) (length styles),
-  (refusal.unchanged (stored_cues s) cues, (refusal.unchanged (region_rows (lists s).regions) regions, refusal.unchanged (style_rows (lists s).styles) styles)),
-)
+-- one of three tables is shorter than it has to be
+pub too_short :
+    (a x b y c z : ℕ)
+    → (a < x) ⊎ (((x ≤ a) × (b < y)) ⊎ ((x ≤ a) × (y ≤ b) × (c < z)))
+    → (ltb a x || ltb b y || ltb c z) ≡ true
+too_short a x b y c z (inl e) = rw (lt-ltb a x e)
+too_short a x b y c z (inr (inl e)) = rw (le-ltb a x e.0, lt-ltb b y e.1)
+too_short a x b y c z (inr (inr e)) = rw (le-ltb a x e.0, le-ltb b y e.1, lt-ltb c z e.2)
 
 -- the answer of a readable text, by the tables' lengths
-module _ (s : List ℕ) (c r t : ℕ) (m : Readable s c r t) (cues regions styles : ℕ) where
-  pub short-answer :
-      (ltb cues c || ltb regions r || ltb styles t) ≡ true → reading_is (Reading.TablesTooShort c r t) ≡ reading s cues regions styles
-  unfolding reading_is reading counts
+module _ (s : List ℕ) (n : Counts) (m : Readable s n) (cues regions styles : ℕ) where
+  pub short-answer : (ltb cues n.cues || ltb regions n.regions || ltb styles n.styles) ≡ true → lists_error (ListsError.TablesTooShort n) ≡ reading s cues regions styles
+  unfolding lists_error count_values reading counts
   short-answer y =
       let e : (ltb cues (length (lists s).cues) || ltb regions (length (lists s).regions) || ltb styles (length (lists s).styles)) ≡ true =
       rw (m.cues_are, m.regions_are, m.styles_are) at y in
       rw (m.size, m.plain, m.signature, m.within, e, m.cues_are, m.regions_are, m.styles_are)
 
-  pub full_answer :
-      (ltb cues c || ltb regions r || ltb styles t) ≡ false → reading_is (Reading.Lists c r t) ≡ reading s cues regions styles
-  unfolding reading_is reading counts
-  full_answer n =
-      let e : (ltb cues (length (lists s).cues) || ltb regions (length (lists s).regions) || ltb styles (length (lists s).styles)) ≡ false =
-      rw (m.cues_are, m.regions_are, m.styles_are) at n in
-      rw (m.size, m.plain, m.signature, m.within, e, m.cues_are, m.regions_are, m.styles_are)
+  pub full_answer : n.cues ≤ cues → n.regions ≤ regions → n.styles ≤ styles → counts_told n ≡ reading s cues regions styles
+  unfolding counts_told count_values reading counts
+  full_answer a b c =
+      rw (
+        m.size,
+        m.plain,
+        m.signature,
+        m.within,
+        le-ltb cues (length (lists s).cues) (omega (arith, m.cues_are)),
+        le-ltb regions (length (lists s).regions) (omega (arith, m.regions_are)),
+        le-ltb styles (length (lists s).styles) (omega (arith, m.styles_are)),
+        m.cues_are,
+        m.regions_are,
+        m.styles_are,
+      )
 
-  -- the tables are long enough
-  pub long_enough :
-      (ltb cues c || ltb regions r || ltb styles t) ≡ false
-      → (length (lists s).cues ≤ cues) × (length (lists s).regions ≤ regions) × (length (lists s).styles ≤ styles)
-  long_enough n =
-      let front = or_first (ltb cues c || ltb regions r) (ltb styles t) n in
-      let a = ltb-false cues c (or_first (ltb cues c) (ltb regions r) front) in
-      let b = ltb-false regions r (or_second (ltb cues c) (ltb regions r) front) in
-      let d = ltb-false styles t (or_second (ltb cues c || ltb regions r) (ltb styles t) n) in
-      (omega (arith, a, m.cues_are), omega (arith, b, m.regions_are), omega (arith, d, m.styles_are))
+pub accepted-rows : (n : Counts) (rows table : List (List ℕ)) → placed rows table ≡ after_reading (counts_told n) rows table
+unfolding counts_told after_reading if_accepted
+accepted-rows n rows table = refl
 
-pub accepted-rows : (c r t : ℕ) (rows table : List (List ℕ)) → placed rows table ≡ after_reading (reading_is (Reading.Lists c r t)) rows table
-unfolding reading_is after_reading if_accepted
-accepted-rows c r t rows table = refl
-
-pub short-rows : (c r t : ℕ) (rows table : List (List ℕ)) → table ≡ after_reading (reading_is (Reading.TablesTooShort c r t)) rows table
-unfolding reading_is after_reading if_accepted
-short-rows c r t rows table = refl
+pub short-rows : (n : Counts) (rows table : List (List ℕ)) → table ≡ after_reading (lists_error (ListsError.TablesTooShort n)) rows table
+unfolding lists_error after_reading if_accepted
+short-rows n rows table = refl

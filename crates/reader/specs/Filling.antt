@@ -6,7 +6,7 @@ use Rattle.format.specs.declared.rows.LineSpan.{LineSpan}
 use Rattle.lookup.specs.Known.{asked_at}
 use Rattle.blocks.specs.declared.items.CueRead.{CueRead}
 use Rattle.blocks.specs.declared.items.Item.{Item}
-use Rattle.reader.specs.declared.counting.Counts.{Counts}
+use Rattle.format.specs.declared.Counts.{Counts}
 
 abbrev pub entry_of : List ℕ → List (List ℕ) → CueRead → CueEntry
 entry_of s rows c =

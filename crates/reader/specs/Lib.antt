@@ -1,4 +1,3 @@
 -- What the contracts of this crate's own functions say beyond `format`.
 pub mod Counting
 pub mod Filling
-pub mod Files

@@ -11,10 +11,10 @@ ghost use Rattle.lookup.specs.Known.{AllRight};
 ghost use Rattle.reader.specs.Counting.{with_item};
 ghost use Rattle.reader.specs.Filling.{entry_of, cues_with, regions_with, styles_with, RoomFor};
 
-use super::counting::Counts;
-use blocks::Next;
-use blocks::collecting::{Stop, is_last};
+use super::counting::with_kind;
+use blocks::collecting::{Block, Stop};
 use blocks::items::{CueRead, Item, ItemKind};
+use format::Counts;
 use format::rows::{CueEntry, CueRow, LineSpan, RegionRow, StyleRow};
 use lookup::inner::{KNOWN_ROWS, KNOWN_WORDS, KnownRow};
 
@@ -25,17 +25,13 @@ fn entry(text: &[u8], cue: CueRead, regions: &[RegionRow], known: &mut [KnownRow
     ensures is { result ≡ entry_of text.now regions.now cue }
     ensures known { AllRight text.now regions.now known.new }
 {
-    let id = cue.id;
-    let part = cue.text;
-    let settings = cue.settings;
-    let name = cue.region;
     CueEntry {
-        id,
+        id: cue.id,
         start: cue.start,
         end: cue.end,
-        text: part,
-        settings,
-        region: lookup::inner::region_asked(text, regions, name, known),
+        text: cue.text,
+        settings: cue.settings,
+        region: lookup::inner::region_asked(text, regions, cue.region, known),
     }
 }
 
@@ -53,8 +49,7 @@ fn lines_of(first: usize, stop: Stop) -> LineSpan
 // item is made here, so that it is not copied.
 fn put(
     text: &[u8],
-    from: usize,
-    stop: Stop,
+    block: Block,
     first: usize,
     n: Counts,
     known: &mut [KnownRow],
@@ -64,34 +59,31 @@ fn put(
 ) -> ItemKind
     requires known_len { length known.old ≡ 256 }
     requires all_right { AllRight text.now (take n.regions regions.old) known.old }
-    requires places_in { PlacesIn text.now from stop }
-    requires room_for { RoomFor (item_is (meaning_at (ltb 0 n.cues) text.now from stop)) n (length cues.old) (length regions.old) (length styles.old) }
-    ensures kind { result ≡ kind_is (item_is (meaning_at (ltb 0 n.cues) text.now from stop)) }
-    ensures known { AllRight text.now (take (with_item (item_is (meaning_at (ltb 0 n.cues) text.now from stop)) n).regions regions.new) known.new }
-    ensures cues { cues.new ≡ cues_with text.now (item_is (meaning_at (ltb 0 n.cues) text.now from stop)) (record { first = first; count = stop.lines }) n regions.old cues.old }
-    ensures regions { regions.new ≡ regions_with (item_is (meaning_at (ltb 0 n.cues) text.now from stop)) n regions.old }
-    ensures styles { styles.new ≡ styles_with (item_is (meaning_at (ltb 0 n.cues) text.now from stop)) n styles.old }
+    requires places_in { PlacesIn text.now block }
+    requires room_for { RoomFor (item_is (meaning_at (ltb 0 n.cues) text.now block)) n (length cues.old) (length regions.old) (length styles.old) }
+    ensures kind { result ≡ kind_is (item_is (meaning_at (ltb 0 n.cues) text.now block)) }
+    ensures known { AllRight text.now (take (with_item (item_is (meaning_at (ltb 0 n.cues) text.now block)) n).regions regions.new) known.new }
+    ensures cues { cues.new ≡ cues_with text.now (item_is (meaning_at (ltb 0 n.cues) text.now block)) (record { first = first; count = block.stop.lines }) n regions.old cues.old }
+    ensures regions { regions.new ≡ regions_with (item_is (meaning_at (ltb 0 n.cues) text.now block)) n regions.old }
+    ensures styles { styles.new ≡ styles_with (item_is (meaning_at (ltb 0 n.cues) text.now block)) n styles.old }
 {
-    if blocks::inner::gives_nothing(text, from, stop) {
+    if blocks::inner::gives_nothing(text, block) {
         return ItemKind::Nothing;
     }
-    match blocks::inner::item_at(text, from, stop, 0 < n.cues) {
+    match blocks::inner::item_at(text, block, 0 < n.cues) {
         Item::Nothing => ItemKind::Nothing,
         Item::Over => ItemKind::Over,
         Item::Cue(cue) => {
-            let at = n.cues;
-            let lines = lines_of(first, stop);
-            cues[at] = rows::cue_row(entry(text, cue, &regions[..n.regions], known), lines);
+            let lines = lines_of(first, block.stop);
+            cues[n.cues] = rows::cue_row(entry(text, cue, &regions[..n.regions], known), lines);
             ItemKind::Cue
         }
         Item::Style(part) => {
-            let at = n.styles;
-            styles[at] = rows::style_row(part);
+            styles[n.styles] = rows::style_row(part);
             ItemKind::Style
         }
         Item::Region(region) => {
-            let at = n.regions;
-            regions[at] = rows::region_row(region);
+            regions[n.regions] = rows::region_row(region);
             ItemKind::Region
         }
     }
@@ -116,22 +108,12 @@ pub(crate) fn fill(
     let mut line = blocks::line_ends(&text[..from]) + 1;
     let mut n = Counts::NONE;
     let mut known = [[0; KNOWN_WORDS]; KNOWN_ROWS];
-    loop {
-        let next = blocks::next_block(text, at);
-        let Next::Block { from: begin, stop } = next else {
-            return;
-        };
+    while let Some(block) = blocks::next_block(text, at) {
         // Empty lines stand between, a byte each.
-        let first = line + (begin - at);
-        let kind = put(
-            text, begin, stop, first, n, &mut known, cues, regions, styles,
-        );
-        let why = stop.why;
-        if is_last(why) {
-            return;
-        }
-        n = n.with_kind(kind);
-        line = first + stop.lines;
-        at = stop.at;
+        let first = line + (block.from - at);
+        let kind = put(text, block, first, n, &mut known, cues, regions, styles);
+        n = with_kind(n, kind);
+        line = first + block.stop.lines;
+        at = block.stop.at;
     }
 }

@@ -7,10 +7,9 @@ ghost use Rattle.format.specs.Rows.{region_rows, style_rows, stored_cues};
 ghost use Rattle.format.specs.Plain.{plain_text};
 ghost use Rattle.format.specs.Converting.{converted_room};
 ghost use Rattle.format.specs.Reading.{reading_is, reading, reading_raw, file_reading_is, file_reading, after_reading};
-ghost use Rattle.reader.specs.Files.{file_told_is};
 
 use format::rows::{CueRow, RegionRow, StyleRow};
-use format::{Converted, FileReading, Plainness, Reading};
+use format::{Counts, FileLists, ReadError, ReadFileError};
 
 mod counting;
 mod filling;
@@ -22,50 +21,19 @@ pub fn read(
     cues: &mut [CueRow],
     regions: &mut [RegionRow],
     styles: &mut [StyleRow],
-) -> Reading
+) -> Result<Counts, ReadError>
     ensures answer { reading_is result ≡ reading text.now (length cues.old) (length regions.old) (length styles.old) }
     ensures cues { cues.new ≡ after_reading (reading_is result) (stored_cues text.now) cues.old }
     ensures regions { regions.new ≡ after_reading (reading_is result) (region_rows (lists text.now).regions) regions.old }
     ensures styles { styles.new ≡ after_reading (reading_is result) (style_rows (lists text.now).styles) styles.old }
 {
     if format::MAX_TEXT < text.len() {
-        return Reading::TextTooLong;
+        return Err(ReadError::TooLong);
     }
-    match plain::first_not_plain(text) {
-        Plainness::Plain => inner::read_plain(text, cues, regions, styles),
-        Plainness::NotPlainAt(i) => Reading::TextNotPlainAt(i),
+    if let Some(i) = plain::first_not_plain(text) {
+        return Err(ReadError::NotPlainAt(i));
     }
-}
-
-// What a file tells whose text told this and has this length. A plain text is not refused by 3: that case is not met.
-fn file_told(answer: Reading, length: usize) -> FileReading
-    ensures { result ≡ file_told_is answer length }
-{
-    match answer {
-        Reading::Lists {
-            cues,
-            regions,
-            styles,
-        } => FileReading::Lists {
-            cues,
-            regions,
-            styles,
-            text: length,
-        },
-        Reading::TextTooLong => FileReading::RawTooLong,
-        Reading::TextNotPlainAt(_) => FileReading::NoSignature,
-        Reading::NoSignature => FileReading::NoSignature,
-        Reading::OverLimit => FileReading::OverLimit,
-        Reading::TablesTooShort {
-            cues,
-            regions,
-            styles,
-        } => FileReading::TablesTooShort {
-            cues,
-            regions,
-            styles,
-        },
-    }
+    Ok(inner::read_plain(text, cues, regions, styles)?)
 }
 
 // A raw file converted and read in one call, which does not look for what is not plain in a text that it made itself. The plain text goes to
@@ -76,16 +44,14 @@ pub fn read_file(
     cues: &mut [CueRow],
     regions: &mut [RegionRow],
     styles: &mut [StyleRow],
-) -> FileReading
+) -> Result<FileLists, ReadFileError>
     ensures answer { file_reading_is result ≡ file_reading raw.now (length text.old) (length cues.old) (length regions.old) (length styles.old) }
     ensures text { text.new ≡ converted_room raw.now text.old }
     ensures cues { cues.new ≡ after_reading (reading_raw raw.now (length text.old) (length cues.old) (length regions.old) (length styles.old)) (stored_cues (plain_text raw.now)) cues.old }
     ensures regions { regions.new ≡ after_reading (reading_raw raw.now (length text.old) (length cues.old) (length regions.old) (length styles.old)) (region_rows (lists (plain_text raw.now)).regions) regions.old }
     ensures styles { styles.new ≡ after_reading (reading_raw raw.now (length text.old) (length cues.old) (length regions.old) (length styles.old)) (style_rows (lists (plain_text raw.now)).styles) styles.old }
 {
-    match plain::convert(raw, text) {
-        Converted::Text(n) => file_told(inner::read_plain(&text[..n], cues, regions, styles), n),
-        Converted::TooLong => FileReading::RawTooLong,
-        Converted::RoomTooShort(n) => FileReading::RoomTooShort(n),
-    }
+    let n = plain::convert(raw, text)?;
+    let counts = inner::read_plain(&text[..n], cues, regions, styles)?;
+    Ok(FileLists { counts, text: n })
 }

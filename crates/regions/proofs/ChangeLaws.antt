@@ -1,54 +1,72 @@
 -- The code's answers for a setting's value give the definition's changes, and its fold over spans is the definition's fold over parts.
 use Prim.Native.Nat.{ℕ}
 use mathlib.Core.Path.{◌≡◌, refl, sym, ap}
-use mathlib.Core.Bool.{◌||◌}
+use mathlib.Core.Bool.{false, ◌||◌}
 use mathlib.Core.List.{List}
-use mathlib.Core.Option.{Option, none, some, Option-elim}
+use Rattle.std.specs.Prelude.{Option, None, Some, Result, Ok, Err}
 use lib.Dec.{ltb}
-use Rattle.format.specs.Texts.{Part}
+use lib.ListN.{get_or}
+use Rattle.format.specs.Bytes.{ascii}
+use Rattle.format.specs.Texts.{Part, same}
 use Rattle.format.specs.Tokens.{Flagged, folded, value_of}
 use Rattle.format.specs.CueSettings.{span_is}
-use Rattle.format.specs.RegionSettings.{RegionValues, point_of, lines_change, region_after, over_region, region_change, region_setting}
-use Rattle.format.specs.declared.regions.Point.{Point}
+use Rattle.format.specs.RegionSettings.{RegionValues, lines_change, region_after, over_region, region_change, region_setting, region_named}
 use Rattle.format.specs.declared.regions.RegionChange.{RegionChange}
 use Rattle.laws.proofs.Tests.{by-test}
+use Rattle.laws.proofs.Runs.{same-is}
 use Rattle.laws.proofs.Changes.{id_after_lem, stepped, folds_as}
-use Rattle.values.specs.declared.numbers.Percentage.{Percentage}
-use Rattle.values.specs.declared.numbers.LineCount.{LineCount}
-use Rattle.values.specs.Numbers.{percentage_is, line_count_is}
-use Rattle.regions.specs.declared.PointRead.{PointRead}
-use Rattle.regions.specs.Changes.{point_is, step_is, taken_is}
-
-abbrev pub point_from : Percentage → Percentage → PointRead
-point_from Percentage.Bad y = PointRead.Bad
-point_from (Percentage.Good x) Percentage.Bad = PointRead.Bad
-point_from (Percentage.Good x) (Percentage.Good y) = PointRead.Good (record { x = x; y = y })
-
-pub point_is_lem : (o p : Option ℕ) → point_is (point_of o p) ≡ point_from (percentage_is o) (percentage_is p)
-unfolding point_of
-point_is_lem none p = refl
-point_is_lem (some x) none = refl
-point_is_lem (some x) (some y) = refl
+use Rattle.values.specs.declared.numbers.NumberError.{NumberError}
+use Rattle.values.specs.Numbers.{line_count_is}
+use Rattle.regions.specs.Changes.{step_is, taken_is}
 
 -- what each answer of the code changes
-abbrev pub lines_from : LineCount → RegionChange
-lines_from LineCount.Bad = RegionChange.Nothing
-lines_from LineCount.Over = RegionChange.Over
-lines_from (LineCount.Good n) = RegionChange.Lines n
+abbrev pub lines_from : Result ℕ NumberError → RegionChange
+lines_from (Err NumberError.Bad) = RegionChange.Nothing
+lines_from (Err NumberError.Over) = RegionChange.Over
+lines_from (Ok n) = RegionChange.Lines n
 
 pub lines-is : (o : Option ℕ) → lines_change o ≡ lines_from (line_count_is o)
 unfolding lines_change
-lines-is none = refl
-lines-is (some n) = by-test (ltb 999_999 n) (λ y. rw y) (λ z. rw z)
+lines-is None = refl
+lines-is (Some n) = by-test (ltb 999_999 n) (λ y. rw y) (λ z. rw z)
 
-abbrev pub of_point : {A : Type 0} → PointRead → A → (Point → A) → A
-of_point PointRead.Bad absent made = absent
-of_point (PointRead.Good p) absent made = made p
+-- a name that is none of a setting's
+pub named_none :
+    (name x : List ℕ)
+    → same name (ascii "id") ≡ false
+    → same name (ascii "width") ≡ false
+    → same name (ascii "lines") ≡ false
+    → same name (ascii "regionanchor") ≡ false
+    → same name (ascii "viewportanchor") ≡ false
+    → same name (ascii "scroll") ≡ false
+    → RegionChange.Nothing ≡ region_named name x
+unfolding region_named
+named_none name x id width lines anchor viewport scroll = rw (id, width, lines, anchor, viewport, scroll)
 
-pub point-told : {A : Type 0} (o : Option Point) (a : A) (f : Point → A) → Option-elim o a f ≡ of_point (point_is o) a f
-unfolding Option-elim
-point-told none a f = refl
-point-told (some p) a f = refl
+-- a name that differs from a long one, by a byte after the first eight
+module _ (s t : List ℕ) where
+  other_at : (i : ℕ) → (get_or s i 0 ≡ get_or t i 0 → ⊥) → same s t ≡ false
+  other_at i n = by-test (same s t) (λ y. absurd (n (ap (λ x. get_or x i 0) (same-is s t y)))) (λ z. z)
+
+  pub other_at_8 : (get_or s 8 0 ≡ get_or t 8 0 → ⊥) → same s t ≡ false
+  other_at_8 = other_at 8
+
+  pub other_at_9 : (get_or s 9 0 ≡ get_or t 9 0 → ⊥) → same s t ≡ false
+  other_at_9 = other_at 9
+
+  pub other_at_10 : (get_or s 10 0 ≡ get_or t 10 0 → ⊥) → same s t ≡ false
+  other_at_10 = other_at 10
+
+  pub other_at_11 : (get_or s 11 0 ≡ get_or t 11 0 → ⊥) → same s t ≡ false
+  other_at_11 = other_at 11
+
+  pub other_at_12 : (get_or s 12 0 ≡ get_or t 12 0 → ⊥) → same s t ≡ false
+  other_at_12 = other_at 12
+
+  pub other_at_13 : (get_or s 13 0 ≡ get_or t 13 0 → ⊥) → same s t ≡ false
+  other_at_13 = other_at 13
+
+pub ruleset not_long = (other_at_8, other_at_9, other_at_10, other_at_11, other_at_12, other_at_13)
 
 -- one token: of each part that may become the identifier the code has the span
 step_is_lem :

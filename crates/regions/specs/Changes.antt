@@ -1,17 +1,10 @@
 -- What a token makes of a region, as the code holds both. `proofs/ChangeLaws.antt` proves that this is what `format` says.
 use Rattle.std.specs.Prelude.{◌||◌}
-use Rattle.std.proofs.Math.Option.{Option, none, some}
 use Rattle.format.specs.Texts.{Part}
 use Rattle.format.specs.Tokens.{Flagged, value_of}
 use Rattle.format.specs.CueSettings.{span_is}
 use Rattle.format.specs.RegionSettings.{RegionValues, region_after, id_after, over_region, region_change, region_is}
-use Rattle.format.specs.declared.regions.Point.{Point}
-use Rattle.regions.specs.declared.PointRead.{PointRead}
 use Rattle.regions.specs.declared.RegionTaken.{RegionTaken}
-
-abbrev pub point_is : Option Point → PointRead
-point_is none = PointRead.Bad
-point_is (some p) = PointRead.Good p
 
 -- one token
 abbrev pub step_is : Part → RegionTaken → RegionTaken

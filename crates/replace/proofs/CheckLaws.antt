@@ -3,7 +3,7 @@ use Prim.Native.Nat.{ℕ, zero, suc, ◌+◌, ◌-◌, ◌≤◌, ◌<◌}
 use mathlib.Core.Path.{◌≡◌, refl, sym, ap, ◌∙◌}
 use mathlib.Core.Bool.{Bool, true, false, cond, not, ◌&&◌}
 use mathlib.Core.List.{List, [], ◌∷◌, ◌++◌}
-use mathlib.Core.Option.{Option, none, some}
+use Rattle.std.specs.Prelude.{Option, None, Some}
 use native.Mathlib.Numerals.{add-one}
 use native.Mathlib.Omega.{arith}
 use lib.Dec.{eqb}
@@ -19,17 +19,20 @@ use Rattle.format.specs.Contents.{cue_of_entry}
 use Rattle.format.specs.Blocks.{has_signature}
 use Rattle.format.specs.Lists.{items, lists, any_over}
 use Rattle.format.specs.Answers.{if_accepted, file_answer}
-use Rattle.format.specs.Replacing.{new_cue_fails, region_names, new_file, no_gap, line_up_to, replacing_is, unless_test, replacing_text}
-use Rattle.format.specs.declared.Replacing.{Replacing}
+use Rattle.format.specs.Replacing.{replace_error, new_cue_fails, region_names, new_file, no_gap, line_up_to, replacing_is, unless_test, replacing_text}
+use Rattle.std.specs.Prelude.{Result, Err}
+use Rattle.format.specs.Reading.{text_error}
+use Rattle.format.specs.Writing.{list_number, not_writable}
+use Rattle.format.specs.declared.errors.ListKind.{ListKind}
+use Rattle.format.specs.declared.errors.TextError.{TextError}
+use Rattle.format.specs.declared.errors.ReplaceError.{ReplaceError}
+use Rattle.places.specs.Finding.{SurveyedIs}
 use Rattle.laws.proofs.Tests.{by-test}
 use Rattle.laws.proofs.Lines.{splits}
 use Rattle.replaced.proofs.CueBlocks.{cue-block_at}
-use Rattle.writable.specs.Faults.{test_number}
-use Rattle.writable.proofs.FaultLaws.{none-fails, number_is_lem}
 use Rattle.blocks.specs.Collecting.{line_ends}
 use Rattle.places.specs.Places.{OwnLines}
-use Rattle.blocks.proofs.LineLaws.{ends_next}
-use Rattle.places.proofs.FindLaws.{ends-split}
+use Rattle.blocks.proofs.LineLaws.{ends-split, ends_next}
 use Rattle.replace.specs.NewCue.{gap_answer, tested_answer, counted_answer, Outcome}
 
 -- no line end stands before the first byte
@@ -94,23 +97,6 @@ gap_is s i j q l e =
     (λ z. let n : line_ends (take j s) ≡ line_ends x = omega (arith, next false z) in
     rw (z, n) (ap (λ r. is_empty (get_or (split r) (line_ends x) [])) at ∙ byte_some x (drop j s) (get_or s i 0) z))
 
--- a number of a test says that it fails, and 0 that none does
-module _ (s t w : List ℕ) {test : ℕ} (e : test ≡ test_number (new_cue_fails t w (region_names s))) where
-  failing_is : (test ≡ 0 → ⊥) → new_cue_fails t w (region_names s) ≡ some test
-  failing_is h = number_is_lem (new_cue_fails t w (region_names s)) (λ z. h (e ∙ z)) ∙ ap some (sym e)
-
-  pub no_test : test ≡ 0 → new_cue_fails t w (region_names s) ≡ none
-  unfolding new_cue_fails
-  no_test z = none-fails 1 _ (omega arith) (sym e ∙ z)
-
-pub test_told :
-    (raw s t w : List ℕ) {test : ℕ}
-    → s ≡ plain_text raw
-    → test ≡ test_number (new_cue_fails t w (region_names s))
-    → (test ≡ 0 → ⊥)
-    → new_cue_fails t w (region_names (plain_text raw)) ≡ some test
-test_told raw s t w q e h = ap (λ x. new_cue_fails t w (region_names x)) (sym q) ∙ failing_is s t w e h
-
 -- the gap before the cue's own lines
 pub gap_told :
     (raw s t w id : List ℕ) (number from to : ℕ) (r : Bool)
@@ -130,12 +116,12 @@ module _ (raw : List ℕ) (number : ℕ) (t w out : List ℕ) where
   abbrev new : List ℕ
   new = new_file raw number t w
 
-  pub no_gap_lem : no_gap (plain_text raw) number t w ≡ true → Outcome new out (gap_answer raw number t w (length out)) Replacing.NoGap out
-  unfolding gap_answer replacing_is if_accepted
+  pub no_gap_lem : no_gap (plain_text raw) number t w ≡ true → Outcome new out (gap_answer raw number t w (length out)) (Err ReplaceError.NoGap) out
+  unfolding gap_answer replacing_is replace_error if_accepted
   no_gap_lem e = rw e (record { answer = refl; holds = refl })
 
   pub gap_passed :
-      {r : Replacing} {room : List ℕ}
+      {r : Result ℕ ReplaceError} {room : List ℕ}
       → no_gap (plain_text raw) number t w ≡ false
       → Outcome new out (file_answer new (length out)) r room
       → Outcome new out (gap_answer raw number t w (length out)) r room
@@ -145,14 +131,16 @@ module _ (raw : List ℕ) (number : ℕ) (t w out : List ℕ) where
   abbrev failing : Option ℕ
   failing = new_cue_fails t w (region_names (plain_text raw))
 
-  pub not_writable :
-      {test : ℕ} → failing ≡ some test → Outcome new out (tested_answer raw number t w (length out)) (Replacing.NotWritable number test) out
-  unfolding tested_answer unless_test replacing_is if_accepted
-  not_writable e = rw e (record { answer = refl; holds = refl })
+  pub test_fails :
+      {test : ℕ}
+      → failing ≡ Some test
+      → Outcome new out (tested_answer raw number t w (length out)) (Err (ReplaceError.NotWritable (record { list = ListKind.Cues; index = number; test = test }))) out
+  unfolding tested_answer unless_test replacing_is replace_error not_writable list_number if_accepted
+  test_fails e = rw e (record { answer = refl; holds = refl })
 
   pub writable_passed :
-      {r : Replacing} {room : List ℕ}
-      → failing ≡ none
+      {r : Result ℕ ReplaceError} {room : List ℕ}
+      → failing ≡ None
       → Outcome new out (gap_answer raw number t w (length out)) r room
       → Outcome new out (tested_answer raw number t w (length out)) r room
   unfolding tested_answer unless_test
@@ -163,12 +151,12 @@ module _ (raw : List ℕ) (number : ℕ) (t w out : List ℕ) where
     count-is : length (lists (plain_text raw)).cues ≡ count
     count-is = sym (e ∙ ap (λ x. length (lists x).cues) q)
 
-    pub no_such_cue : count ≤ number → Outcome new out (counted_answer raw number t w (length out)) (Replacing.NoSuchCue count) out
-    unfolding counted_answer replacing_is if_accepted
+    pub no_such_cue : count ≤ number → Outcome new out (counted_answer raw number t w (length out)) (Err (ReplaceError.NoSuchCue count)) out
+    unfolding counted_answer replacing_is replace_error if_accepted
     no_such_cue h = rw (count-is, le-ltb number count h) (record { answer = refl; holds = refl })
 
     pub count_passed :
-        {r : Replacing} {room : List ℕ}
+        {r : Result ℕ ReplaceError} {room : List ℕ}
         → number < count
         → Outcome new out (tested_answer raw number t w (length out)) r room
         → Outcome new out (counted_answer raw number t w (length out)) r room
@@ -177,17 +165,13 @@ module _ (raw : List ℕ) (number : ℕ) (t w out : List ℕ) where
 
   -- the file's own refusals, in its plain text s
   module _ (s : List ℕ) (q : s ≡ plain_text raw) where
-    pub no_signature : has_signature s ≡ false → Outcome new out (replacing_text raw number t w (length out)) Replacing.NoSignature out
-    unfolding replacing_text replacing_is if_accepted
-    no_signature e = rw (rw q at e) (record { answer = refl; holds = refl })
-
-    pub over_limit :
-        has_signature s ≡ true → any_over (items s) ≡ true → Outcome new out (replacing_text raw number t w (length out)) Replacing.OverLimit out
-    unfolding replacing_text replacing_is if_accepted
-    over_limit e o = rw (rw q at e, rw q at o) (record { answer = refl; holds = refl })
+    pub text_refused : (number₂ : ℕ) (name : List ℕ) (e : TextError) → SurveyedIs s number₂ name (Err e) → Outcome new out (replacing_text raw number t w (length out)) (Err (ReplaceError.Text e)) out
+    unfolding replacing_text replacing_is replace_error text_error if_accepted
+    text_refused k name TextError.NoSignature h = rw (rw q at h) (record { answer = refl; holds = refl })
+    text_refused k name TextError.OverLimit h = rw (rw q at h.0, rw q at h.1) (record { answer = refl; holds = refl })
 
     pub file_passed :
-        {r : Replacing} {room : List ℕ}
+        {r : Result ℕ ReplaceError} {room : List ℕ}
         → has_signature s ≡ true
         → any_over (items s) ≡ false
         → Outcome new out (counted_answer raw number t w (length out)) r room

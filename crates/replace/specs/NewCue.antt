@@ -6,13 +6,17 @@ use Rattle.format.specs.Lists.{lists}
 use Rattle.format.specs.Answers.{Answer, refused, if_accepted, file_answer, placed}
 use Rattle.format.specs.Rows.{new_cue_entry}
 use Rattle.format.specs.Replacing.{name_lent, new_cue_fails, region_names, new_file, no_gap, replacing_is, unless_test}
-use Rattle.format.specs.declared.Replacing.{Replacing}
-use Rattle.setting_forms.specs.Settings.{asked}
+use Rattle.std.specs.Prelude.{Option, None, Some, Result}
+use Rattle.format.specs.declared.errors.ReplaceError.{ReplaceError}
 use Rattle.forms.specs.Forms.{cue_form}
+
+-- the name of the region that a cue asks for; none where it is empty
+unfoldable pub asked : List ℕ → Option (List ℕ)
+asked name = cond (is_empty name) None (Some name)
 
 -- the written form of the new cue
 unfoldable pub lent_form : List ℕ → List ℕ → List ℕ
-lent_form t w = cue_form t (new_cue_entry w) (asked (not (is_empty (name_lent t w))) (name_lent t w))
+lent_form t w = cue_form t (new_cue_entry w) (asked (name_lent t w))
 
 -- that form in place of the bytes of a file from one place up to another
 unfoldable pub in_place : List ℕ → ℕ → ℕ → List ℕ → List ℕ → List ℕ
@@ -34,6 +38,6 @@ counted_answer raw number t w out =
     (tested_answer raw number t w out)
 
 -- an answer, and the output room after it
-pub record Outcome (new out : List ℕ) (a : Answer) (r : Replacing) (room : List ℕ) : Type 0 where
+pub record Outcome (new out : List ℕ) (a : Answer) (r : Result ℕ ReplaceError) (room : List ℕ) : Type 0 where
   pub answer : replacing_is r ≡ a
   pub holds : room ≡ if_accepted a (placed new out) out

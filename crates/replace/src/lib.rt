@@ -3,74 +3,69 @@
 #![tactic(auto)]
 
 ghost use Rattle.std.specs.Prelude.{ℕ, ◌-◌, ◌≤◌, ◌<◌, ◌≡◌, false, not, ◌&&◌, [], length, get_or, take};
-ghost use Rattle.std.proofs.Math.Option.{none};
+ghost use Rattle.std.specs.Prelude.{None, Ok};
+ghost use Rattle.std.specs.Option.{option_copied};
 ghost use Rattle.format.specs.Texts.{is_empty};
 ghost use Rattle.format.specs.Lines.{split};
 ghost use Rattle.format.specs.Plain.{plain_text};
-ghost use Rattle.format.specs.Answers.{file_answer};
 ghost use Rattle.format.specs.Converting.{converted_room};
-ghost use Rattle.format.specs.Replacing.{name_lent, new_cue_fails, region_names, new_file, replacing_is, replacing_text, replacing, replaced_room, Replaced};
-ghost use Rattle.format.specs.declared.Replacing.TheVariants as Cases;
-ghost use Rattle.output.specs.Puts.{Puts};
+ghost use Rattle.format.specs.Replacing.{new_cue_fails, region_names, new_file, replacing_is, replacing_text, replacing, replaced_room, Replaced};
+ghost use Rattle.output.specs.Puts.{Puts, Made};
 ghost use Rattle.blocks.specs.Collecting.{line_ends};
 ghost use Rattle.places.specs.Places.{OwnLines};
-ghost use Rattle.places.specs.Finding.{FoundIn};
-ghost use Rattle.replace.specs.NewCue.{in_place, gap_answer, tested_answer, counted_answer, Outcome};
+ghost use Rattle.replace.specs.NewCue.{asked, in_place, Outcome};
 
 use format::rows::NewCueRow;
 use format::settings::Span;
-use format::{Converted, Replacing};
-use output::bytes;
-use places::inner::finding::{Found, Surveyed};
+use format::{ListKind, NotWritable, OutError, ReplaceError};
+use output::Output;
 use places::inner::{finding, testing};
 use places::lines;
 use values::bytes::part;
 
+// The name of the region that a cue asks for; none where it is empty.
+fn region_asked<'a>(name: &'a [u8]) -> Option<&'a [u8]>
+    ensures { option_copied result ≡ asked name.now }
+{
+    if name.len() == 0 {
+        return None;
+    }
+    Some(name)
+}
+
 // The file with the new cue's written form in place of the bytes from one place up to another.
-fn put_file(
-    raw: &[u8],
-    start: usize,
-    end: usize,
-    text: &[u8],
-    row: NewCueRow,
-    out: &mut [u8],
-) -> usize
-    ensures { Puts (in_place raw.now start end text.now row) 0 out.old result out.new }
+fn put_file(raw: &[u8], start: usize, end: usize, text: &[u8], row: NewCueRow, out: &mut Output)
+    ensures { Puts (in_place raw.now start end text.now row) out.old out.new }
 {
     let place = rows::new_cue_name(row);
     let name = part(text, place.from, place.to);
-    let words = rows::inner::cue_of_new(row);
-    let own = bytes(part(raw, 0, start), out, 0);
-    let after = forms::cue_named(text, words, 0 < name.len(), name, out, own);
-    bytes(part(raw, end, raw.len()), out, after)
+    out.bytes(part(raw, 0, start));
+    forms::cue_named(text, rows::inner::cue_of_new(row), region_asked(name), out);
+    out.bytes(part(raw, end, raw.len()));
 }
 
-// The checks 1 (output) and 10, and the new file.
-fn replace_own(
+// The checks 1 (output) and 10, and the new file, in a file whose plain text has the cue's lines in this part.
+fn make_file(
     raw: &[u8],
     s: &[u8],
-    number: usize,
     own: Span,
     text: &[u8],
     row: NewCueRow,
     out: &mut [u8],
-) -> Replacing
-    requires { (s.now ≡ plain_text raw.now) × (OwnLines s.now number own.from own.to) × (new_cue_fails text.now row (region_names s.now) ≡ none) }
-    ensures { Outcome (new_file raw.now number text.now row) out.old (file_answer (new_file raw.now number text.now row) (length out.old)) result out.new }
+) -> Result<usize, OutError>
+    requires { (s.now ≡ plain_text raw.now) × (new_cue_fails text.now row (region_names s.now) ≡ None) }
+    ensures { (number : ℕ) → OwnLines s.now number own.from own.to → Made (new_file raw.now number text.now row) out.old result out.new }
 {
     let first = blocks::line_ends(part(s, 0, own.from));
     let more = blocks::line_ends(part(s, own.from, own.to));
     let start = lines::raw_start(raw, 0, first);
     let end = lines::raw_end(raw, start, more);
-    let mut nothing = [0u8; 1];
-    let need = put_file(raw, start, end, text, row, &mut nothing);
-    if format::MAX_FILE < need {
-        return Replacing::FileTooLong;
-    }
-    if out.len() < need {
-        return Replacing::OutTooShort(need);
-    }
-    Replacing::File(put_file(raw, start, end, text, row, out))
+    let put = |out: &mut Output|
+        ensures { Puts (in_place raw.entry.now start end text.entry.now row) out.old out.new }
+    {
+        put_file(raw, start, end, text, row, out);
+    };
+    output::make_file(put, out)
 }
 
 // Is the line of a plain text before the one that has this place empty. Its end is sought back from the place: a cue's lines begin right
@@ -97,68 +92,6 @@ fn lacks_gap(s: &[u8], place: usize, id: &[u8]) -> bool
     !gap_before(s, place)
 }
 
-// Check 9 and those after it.
-fn replace_found(
-    raw: &[u8],
-    s: &[u8],
-    number: usize,
-    found: Found,
-    text: &[u8],
-    row: NewCueRow,
-    out: &mut [u8],
-) -> Replacing
-    requires { (s.now ≡ plain_text raw.now) × (FoundIn s.now number (name_lent text.now row) found) × (number < found.cues) × (new_cue_fails text.now row (region_names s.now) ≡ none) }
-    ensures { Outcome (new_file raw.now number text.now row) out.old (gap_answer raw.now number text.now row (length out.old)) result out.new }
-{
-    let own = found.own;
-    let place = rows::new_cue_id(row);
-    let id = part(text, place.from, place.to);
-    if lacks_gap(s, own.from, id) {
-        return Replacing::NoGap;
-    }
-    replace_own(raw, s, number, own, text, row, out)
-}
-
-// Check 8 and those after it.
-fn replace_there(
-    raw: &[u8],
-    s: &[u8],
-    number: usize,
-    found: Found,
-    text: &[u8],
-    row: NewCueRow,
-    out: &mut [u8],
-) -> Replacing
-    requires { (s.now ≡ plain_text raw.now) × (FoundIn s.now number (name_lent text.now row) found) × (number < found.cues) }
-    ensures { Outcome (new_file raw.now number text.now row) out.old (tested_answer raw.now number text.now row (length out.old)) result out.new }
-{
-    let test = testing::new_cue_test(text, row, found.named);
-    if test != 0 {
-        return Replacing::NotWritable { number, test };
-    }
-    replace_found(raw, s, number, found, text, row, out)
-}
-
-// Check 7 and those after it, in a file that has this.
-fn replace_counted(
-    raw: &[u8],
-    s: &[u8],
-    number: usize,
-    found: Found,
-    text: &[u8],
-    row: NewCueRow,
-    out: &mut [u8],
-) -> Replacing
-    requires { (s.now ≡ plain_text raw.now) × (FoundIn s.now number (name_lent text.now row) found) }
-    ensures { Outcome (new_file raw.now number text.now row) out.old (counted_answer raw.now number text.now row (length out.old)) result out.new }
-{
-    let count = found.cues;
-    if count <= number {
-        return Replacing::NoSuchCue(count);
-    }
-    replace_there(raw, s, number, found, text, row, out)
-}
-
 // The checks after converting, in the file's plain text.
 fn replace_in(
     raw: &[u8],
@@ -167,17 +100,27 @@ fn replace_in(
     text: &[u8],
     row: NewCueRow,
     out: &mut [u8],
-) -> Replacing
+) -> Result<usize, ReplaceError>
     requires { s.now ≡ plain_text raw.now }
     ensures { Outcome (new_file raw.now number text.now row) out.old (replacing_text raw.now number text.now row (length out.old)) result out.new }
 {
     let place = rows::new_cue_name(row);
-    let name = part(text, place.from, place.to);
-    match finding::survey(s, number, name) {
-        Surveyed::NoSignature => Replacing::NoSignature,
-        Surveyed::OverLimit => Replacing::OverLimit,
-        Surveyed::Readable(found) => replace_counted(raw, s, number, found, text, row, out),
+    let found = finding::survey(s, number, part(text, place.from, place.to))?;
+    let Some(own) = found.own else {
+        return Err(ReplaceError::NoSuchCue(found.cues));
+    };
+    if let Some(test) = testing::new_cue_test(text, row, found.named) {
+        return Err(ReplaceError::NotWritable(NotWritable {
+            list: ListKind::Cues,
+            index: number,
+            test,
+        }));
     }
+    let place = rows::new_cue_id(row);
+    if lacks_gap(s, own.from, part(text, place.from, place.to)) {
+        return Err(ReplaceError::NoGap);
+    }
+    Ok(make_file(raw, s, own, text, row, out)?)
 }
 
 // Replaces the cue with this number by the new cue, a row over a text lent with it. The new file stands at the start of the output room;
@@ -189,15 +132,12 @@ pub fn replace_cue(
     text: &[u8],
     scratch: &mut [u8],
     out: &mut [u8],
-) -> Replacing
+) -> Result<usize, ReplaceError>
     ensures answer { replacing_is result ≡ replacing raw.now number text.now row (length scratch.old) (length out.old) }
     ensures scratch { scratch.new ≡ converted_room raw.now scratch.old }
     ensures out { out.new ≡ replaced_room raw.now number text.now row (length scratch.old) out.old }
-    ensures replaced { (n : ℕ) → result ≡ Cases.File n → Replaced raw.now number text.now row (take n out.new) }
+    ensures replaced { (n : ℕ) → result ≡ Ok n → Replaced raw.now number text.now row (take n out.new) }
 {
-    match plain::convert(raw, scratch) {
-        Converted::Text(n) => replace_in(raw, &scratch[..n], number, text, row, out),
-        Converted::TooLong => Replacing::RawTooLong,
-        Converted::RoomTooShort(n) => Replacing::ScratchTooShort(n),
-    }
+    let n = plain::convert(raw, scratch)?;
+    replace_in(raw, &scratch[..n], number, text, row, out)
 }

@@ -3,7 +3,7 @@ use Prim.Native.Nat.{ℕ, ◌-◌}
 use mathlib.Core.Path.{◌≡◌, refl, sym, ap, ◌∙◌}
 use mathlib.Core.Bool.{true, false, not, ◌||◌, false≢true}
 use mathlib.Core.List.{List, [], ◌∷◌, map, ◌++◌}
-use mathlib.Core.Option.{Option, none, some}
+use Rattle.std.specs.Prelude.{Option, None, Some}
 use native.Mathlib.Omega.{arith}
 use lib.Dec.{eqb}
 use lib.ListN.{length, get_or}
@@ -22,7 +22,6 @@ use Rattle.format.specs.Replacing.{name_lent, region_asked, with_region, cue_ask
 use Rattle.laws.proofs.Tests.{by-test, and_left, and_right, absent}
 use Rattle.laws.proofs.Standing.{All}
 use Rattle.laws.proofs.Rows.{row-signed}
-use Rattle.format.specs.declared.rows.RegionIndex.TheVariants as RegionIndex
 use Rattle.laws.proofs.Lines.{unbroken, split-join}
 use Rattle.laws.proofs.Names.{found}
 use Rattle.laws.proofs.Tokens.{inside as black}
@@ -33,7 +32,7 @@ use Rattle.roundtrip.proofs.Files.{ids-contents, cue_blocks_lem}
 use Rattle.replaced.proofs.Names.{names_dark}
 
 -- the region asked for is the last with its name
-found_name : (names : List (List ℕ)) (name : List ℕ) (i : ℕ) → last_named 0 name names ≡ some i → get_or names i [] ≡ name
+found_name : (names : List (List ℕ)) (name : List ℕ) (i : ℕ) → last_named 0 name names ≡ Some i → get_or names i [] ≡ name
 found_name names name i e =
     let z : i ≡ i - 0 = omega arith in
     ap (λ j. get_or names j []) z ∙ (found 0 name names i e).named
@@ -45,8 +44,8 @@ asked_allowed :
     → is_there o ≡ true
     → cue_test6 names o ≡ true
 unfolding cue_test6 last_of_its_name is_index is_there
-asked_allowed names name none n e t = refl
-asked_allowed names name (some i) n e t =
+asked_allowed names name None n e t = refl
+asked_allowed names name (Some i) n e t =
     let f = found 0 name names i e in
     rw (found_name names name i e, n, e, lt-ltb i (length names) (omega (arith, f.below)), eq-eqb i i refl)
 
@@ -71,7 +70,7 @@ begins ((c ∷ x) ∷ ls) b =
     let other = not-true (eqb c lf) (and_left (not (eqb c lf)) _ (and_left (absent lf (c ∷ x)) (unbroken ls) b.whole)) in
     record { lines = split-join (c ∷ x) ls b.whole; some = refl; fresh = rw other }
 
-module _ (s t w : List ℕ) (e : new_cue_fails t w (region_names s) ≡ none) where
+module _ (s t w : List ℕ) (e : new_cue_fails t w (region_names s) ≡ None) where
   abbrev names : List (List ℕ)
   names = region_names s
 
@@ -102,7 +101,7 @@ module _ (s t w : List ℕ) (e : new_cue_fails t w (region_names s) ≡ none) wh
   asked_writable =
       let allowed = region_allowed names (name_lent t w) passed.1.1.1.1.1.0 in
       let tests = all_front (λ t. t ≡ true) (cue_tests lent) (new_test6 t w names ∷ []) passed.1 in
-      tests_writable rs (region_asked names (name_lent t w)) lent tests (row-signed RegionIndex.None w)
+      tests_writable rs (region_asked names (name_lent t w)) lent tests (row-signed None w)
       (rw names_are allowed) (λ i. rw names_are (dark i))
 
   -- its written form is plain, is not empty and does not begin with a line end
@@ -113,13 +112,13 @@ module _ (s t w : List ℕ) (e : new_cue_fails t w (region_names s) ≡ none) wh
       record { id = parts.id; text = parts.text }
 
   -- the region's name is the one lent, which is plain
-  pub asked-name : (i : ℕ) → region_asked names (name_lent t w) ≡ some i → get_or names i [] ≡ name_lent t w
+  pub asked-name : (i : ℕ) → region_asked names (name_lent t w) ≡ Some i → get_or names i [] ≡ name_lent t w
   unfolding region_asked
   asked-name i q =
       let name = name_lent t w in
       by-test (is_empty name)
-      (λ y. let f : ◌≡◌ {A = Option ℕ} none (some i) = rw y at q in let z : ◌≡◌ {A = ℕ} 0 1 = cc in absurd (omega arith))
-      (λ n. let g : last_named 0 name names ≡ some i = rw n at q in found_name names name i g)
+      (λ y. let f : ◌≡◌ {A = Option ℕ} None (Some i) = rw y at q in let z : ◌≡◌ {A = ℕ} 0 1 = cc in absurd (omega arith))
+      (λ n. let g : last_named 0 name names ≡ Some i = rw n at q in found_name names name i g)
 
   plain-lent : Plain (name_lent t w)
   unfolding new_test1 name_lent
@@ -129,8 +128,8 @@ module _ (s t w : List ℕ) (e : new_cue_fails t w (region_names s) ≡ none) wh
 
   plain-name : (o : Option ℕ) → region_asked names (name_lent t w) ≡ o → All Plain (written_region_name rs o)
   unfolding written_region_name all plain_byte
-  plain-name none q = tt
-  plain-name (some i) q =
+  plain-name None q = tt
+  plain-name (Some i) q =
       plain-setting (ascii "region") (get_or (map (λ r. r.id) rs) i []) refl (rw (names_are, asked-name i q) plain-lent)
 
   abbrev lines : List (List ℕ)

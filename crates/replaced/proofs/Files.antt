@@ -4,12 +4,13 @@ use Prim.Native.Nat.{ℕ, zero, suc, ◌+◌, ◌≤◌, ◌<◌}
 use mathlib.Core.Path.{◌≡◌, refl, sym, ap, ◌∙◌}
 use mathlib.Core.Bool.{true, false, not}
 use mathlib.Core.List.{List, [], ◌∷◌, ◌++◌, append_assoc}
-use mathlib.Core.Option.{Option, none, some}
+use Rattle.std.specs.Prelude.{Option, None, Some}
 use native.Mathlib.Omega.{arith}
 use lib.Dec.{ltb}
 use lib.ListN.{length, get_or, take, drop}
 use lib.Seq.{get_or-set_same}
 use borrow.Author.Tests.{ltb-true, not-false}
+use Rattle.std.specs.Prelude.{Result, Ok}
 use Rattle.format.specs.Plain.{plain_text}
 use Rattle.format.specs.Lines.{split}
 use Rattle.format.specs.Blocks.{has_signature}
@@ -19,7 +20,7 @@ use Rattle.format.specs.Contents.{cue_of_entry, CueContents, contents}
 use Rattle.format.specs.LineNumbers.{cue_blocks, line_spans, LinesMoved}
 use Rattle.format.specs.Replacing.{raw_lines, first_line, last_line, own_start, own_end, cue_asked, new_cue_fails, with_region, region_names, new_form, new_file, with_cue, no_gap, unless_test, replacing_is, replacing_text, replacing, replaced_room, Replaced}
 use Rattle.format.specs.Edits.{after_checks}
-use Rattle.format.specs.declared.Replacing.{Replacing}
+use Rattle.format.specs.declared.errors.ReplaceError.{ReplaceError}
 use Rattle.laws.proofs.Answers.{after_test, after-answer, front, file-made, reads-again}
 use Rattle.replaced.proofs.RawLines.{spliced, lines-replaced, signature-first}
 use Rattle.replaced.proofs.CueBlocks.{LinesReplaced, cue-block_at, lines_read}
@@ -27,17 +28,17 @@ use Rattle.replaced.proofs.Spans.{lines_moved}
 use Rattle.replaced.proofs.Asked.{asked_writable, form_plain, form_begins}
 
 -- a new cue that fails a test is refused
-after_option : (o : Option ℕ) (n : ℕ) (vs : List ℕ) (a : Answer) → unless_test o n a ≡ accepted vs → (o ≡ none) × (a ≡ accepted vs)
+after_option : (o : Option ℕ) (n : ℕ) (vs : List ℕ) (a : Answer) → unless_test o n a ≡ accepted vs → (o ≡ None) × (a ≡ accepted vs)
 unfolding unless_test
-after_option none n vs a e = (refl, e)
-after_option (some test) n vs a e = let z : ◌≡◌ {A = ℕ} 0 1 = cc in absurd (omega arith)
+after_option None n vs a e = (refl, e)
+after_option (Some test) n vs a e = let z : ◌≡◌ {A = ℕ} 0 1 = cc in absurd (omega arith)
 
 -- a file and a new cue that pass the checks 4, 5, 7, 8, 9
 pub record Passes (raw : List ℕ) (number : ℕ) (t w : List ℕ) : Type 0 where
   pub signature : has_signature (plain_text raw) ≡ true
   pub within : any_over (items (plain_text raw)) ≡ false
   pub there : number < length (lists (plain_text raw)).cues
-  pub writable : new_cue_fails t w (region_names (plain_text raw)) ≡ none
+  pub writable : new_cue_fails t w (region_names (plain_text raw)) ≡ None
   pub gap : no_gap (plain_text raw) number t w ≡ false
 
 -- they do where what is answered after the checks is accepted
@@ -142,11 +143,11 @@ replaced raw number t w scratch out vs e =
 
 -- the same of the file that a function left in the output room, where it keeps the promise of the answer and of that room
 pub room-replaced :
-    (raw : List ℕ) (number : ℕ) (t w : List ℕ) (scratch : ℕ) (out left : List ℕ) (r : Replacing)
+    (raw : List ℕ) (number : ℕ) (t w : List ℕ) (scratch : ℕ) (out left : List ℕ) (r : Result ℕ ReplaceError)
     → replacing_is r ≡ replacing raw number t w scratch (length out)
     → left ≡ replaced_room raw number t w scratch out
     → (n : ℕ)
-    → r ≡ Replacing.File n
+    → r ≡ Ok n
     → Replaced raw number t w (take n left)
 unfolding replacing_is replaced_room if_accepted
 room-replaced raw number t w scratch out left r e room n q =

@@ -3,7 +3,7 @@ use Prim.Native.Nat.{ℕ, zero, suc}
 use mathlib.Core.Path.{◌≡◌, refl}
 use mathlib.Core.Bool.{Bool, true, false, ◌||◌}
 use mathlib.Core.List.{List, [], ◌∷◌}
-use mathlib.Core.Option.{Option, none, some}
+use Rattle.std.specs.Prelude.{Option, None, Some}
 use lib.Dec.{eqb}
 use lib.ListN.{get_or}
 use Rattle.format.specs.Bytes.{ascii, colon, white}
@@ -63,8 +63,8 @@ DarkItem (region r over) = Dark r.id
 
 dark_cue : (id : Part) (ls : List Line) (o : Option Timing) → DarkItem (cue_of id ls o)
 unfolding cue_of
-dark_cue id ls none = tt
-dark_cue id ls (some t) = tt
+dark_cue id ls None = tt
+dark_cue id ls (Some t) = tt
 
 dark_meaning : (seen : Bool) (b : List Line) → DarkItem (meaning seen b)
 unfolding meaning definition region_of

@@ -3,20 +3,22 @@
 // request.
 #![tactic(auto)]
 
-ghost use Rattle.std.specs.Prelude.{◌+◌, ◌<◌, ◌^◌, ◌≡◌, [], ◌++◌, length};
-ghost use Rattle.std.proofs.Math.Option.{Option-elim};
+ghost use Rattle.std.specs.Prelude.{◌+◌, ◌<◌, ◌^◌, ◌≡◌, [], ◌++◌, length, option_map};
+ghost use Rattle.std.specs.Option.{option_map_or};
 ghost use Rattle.format.specs.Fields.{fields, field_number, unescaped};
 ghost use Rattle.format.specs.Requests.{settings_field, request, request_of, lent_text};
 ghost use Rattle.format.specs.Rows.{new_cue_words};
+ghost use Rattle.std.proofs.Math.ListN as Lists;
 ghost use Rattle.output.specs.Puts.{room_with};
 ghost use Rattle.cue_settings.specs.Steps.{taken_is};
-ghost use Rattle.fields.specs.Fields.{number_is, length_is, text_of};
-ghost use Rattle.requests.specs.Asked.{field_of, numbers_in, lengths_in, rest_of, asking_is, asked_is, name_of};
+ghost use Rattle.fields.specs.Fields.{text_of};
+ghost use Rattle.requests.specs.Asked.{field_of, numbers_in, lengths_in, rest_of, asking_is, asking_for, name_of};
 
 use cue_settings::steps::CueTaken;
-use fields::{FieldLength, FieldNumber, nth};
-use format::rows::{CueEntry, NewCueRow, RegionIndex};
+use fields::nth;
+use format::rows::{CueEntry, NewCueRow};
 use format::settings::{Settings, Span};
+use output::Output;
 use values::bytes::{part, same_bytes};
 
 // What is asked for: the cue's number, the new cue, whose parts stand in a lent room, and the part there that is its region's name.
@@ -28,43 +30,25 @@ pub struct Asking {
 }
 
 #[derive(Clone, Copy)]
-pub enum Asked {
-    Bad,
-    Cue(Asking),
-}
-
-#[derive(Clone, Copy)]
 struct Numbers {
     number: u64,
     start: u64,
     end: u64,
 }
 
-#[derive(Clone, Copy)]
-enum NumbersRead {
-    Bad,
-    Good(Numbers),
-}
-
-fn number_in(line: &[u8], k: usize) -> FieldNumber
-    ensures { result ≡ number_is (field_number (field_of line.now k)) }
+fn number_in(line: &[u8], k: usize) -> Option<u64>
+    ensures { result ≡ field_number (field_of line.now k) }
 {
     fields::read_number(nth(line, k))
 }
 
-fn numbers_of(line: &[u8]) -> NumbersRead
+fn numbers_of(line: &[u8]) -> Option<Numbers>
     ensures { result ≡ numbers_in (fields line.now) }
 {
-    let FieldNumber::Number(number) = number_in(line, 1) else {
-        return NumbersRead::Bad;
-    };
-    let FieldNumber::Number(start) = number_in(line, 2) else {
-        return NumbersRead::Bad;
-    };
-    let FieldNumber::Number(end) = number_in(line, 3) else {
-        return NumbersRead::Bad;
-    };
-    NumbersRead::Good(Numbers { number, start, end })
+    let number = number_in(line, 1)?;
+    let start = number_in(line, 2)?;
+    let end = number_in(line, 3)?;
+    Some(Numbers { number, start, end })
 }
 
 // How long the identifier and the text are that the fields stand for.
@@ -74,28 +58,18 @@ struct Lengths {
     text: usize,
 }
 
-#[derive(Clone, Copy)]
-enum LengthsRead {
-    Bad,
-    Good(Lengths),
-}
-
-fn length_in(line: &[u8], k: usize) -> FieldLength
-    ensures { result ≡ length_is (unescaped (field_of line.now k)) }
+fn length_in(line: &[u8], k: usize) -> Option<usize>
+    ensures { result ≡ option_map Lists.length (unescaped (field_of line.now k)) }
 {
     fields::length(nth(line, k))
 }
 
-fn lengths_of(line: &[u8]) -> LengthsRead
+fn lengths_of(line: &[u8]) -> Option<Lengths>
     ensures { result ≡ lengths_in (fields line.now) }
 {
-    let FieldLength::Of(id) = length_in(line, 4) else {
-        return LengthsRead::Bad;
-    };
-    let FieldLength::Of(text) = length_in(line, 6) else {
-        return LengthsRead::Bad;
-    };
-    LengthsRead::Good(Lengths { id, text })
+    let id = length_in(line, 4)?;
+    let text = length_in(line, 6)?;
+    Some(Lengths { id, text })
 }
 
 fn settings_of(line: &[u8]) -> CueTaken
@@ -118,9 +92,10 @@ fn name_of<'a>(line: &'a [u8]) -> &'a [u8]
 fn put_parts(line: &[u8], room: &mut [u8])
     ensures { room.new ≡ room_with 0 (text_of (unescaped (field_of line.now 4)) ++ text_of (unescaped (field_of line.now 6)) ++ name_of (field_of line.now 5)) room.old }
 {
-    let id_end = fields::put(nth(line, 4), room, 0);
-    let text_end = fields::put(nth(line, 6), room, id_end);
-    output::bytes(name_of(line), room, text_end);
+    let mut out = Output { room, at: 0 };
+    fields::put(nth(line, 4), &mut out);
+    fields::put(nth(line, 6), &mut out);
+    out.bytes(name_of(line));
 }
 
 // The new cue over what was put, its name of so many bytes after the text. The region is asked for by its name, so the entry has none.
@@ -148,7 +123,7 @@ fn asking_of(numbers: Numbers, settings: Settings, lengths: Lengths, name: usize
         end: numbers.end,
         text,
         settings,
-        region: RegionIndex::None,
+        region: None,
     };
     Asking {
         number: numbers.number as usize,
@@ -158,43 +133,38 @@ fn asking_of(numbers: Numbers, settings: Settings, lengths: Lengths, name: usize
 }
 
 // What the fields after the numbers ask for.
-fn read_rest(line: &[u8], numbers: Numbers, room: &mut [u8]) -> Asked
-    ensures answer { result ≡ asked_is (rest_of numbers (fields line.now)) }
-    ensures room { room.new ≡ room_with 0 (Option-elim (rest_of numbers (fields line.now)) [] lent_text) room.old }
+fn read_rest(line: &[u8], numbers: Numbers, room: &mut [u8]) -> Option<Asking>
+    ensures answer { result ≡ option_map asking_for (rest_of numbers (fields line.now)) }
+    ensures room { room.new ≡ room_with 0 (option_map_or lent_text (rest_of numbers (fields line.now)) []) room.old }
 {
-    let LengthsRead::Good(lengths) = lengths_of(line) else {
-        return Asked::Bad;
-    };
+    let lengths = lengths_of(line)?;
     let taken = settings_of(line);
     if taken.over {
-        return Asked::Bad;
+        return None;
     }
     put_parts(line, room);
     let name = name_of(line);
-    let settings = taken.settings;
-    Asked::Cue(asking_of(numbers, settings, lengths, name.len()))
+    Some(asking_of(numbers, taken.settings, lengths, name.len()))
 }
 
-fn read_fields(line: &[u8], room: &mut [u8]) -> Asked
-    ensures answer { result ≡ asked_is (request_of (fields line.now)) }
-    ensures room { room.new ≡ room_with 0 (Option-elim (request_of (fields line.now)) [] lent_text) room.old }
+fn read_fields(line: &[u8], room: &mut [u8]) -> Option<Asking>
+    ensures answer { result ≡ option_map asking_for (request_of (fields line.now)) }
+    ensures room { room.new ≡ room_with 0 (option_map_or lent_text (request_of (fields line.now)) []) room.old }
 {
-    match numbers_of(line) {
-        NumbersRead::Bad => Asked::Bad,
-        NumbersRead::Good(numbers) => read_rest(line, numbers, room),
-    }
+    let numbers = numbers_of(line)?;
+    read_rest(line, numbers, room)
 }
 
 // What a line asks for. The new cue's parts are put into the room.
-pub fn read(line: &[u8], room: &mut [u8]) -> Asked
-    ensures answer { result ≡ asked_is (request line.now) }
-    ensures room { room.new ≡ room_with 0 (Option-elim (request line.now) [] lent_text) room.old }
+pub fn read(line: &[u8], room: &mut [u8]) -> Option<Asking>
+    ensures answer { result ≡ option_map asking_for (request line.now) }
+    ensures room { room.new ≡ room_with 0 (option_map_or lent_text (request line.now) []) room.old }
 {
     if fields::count(line) != 7 {
-        return Asked::Bad;
+        return None;
     }
     if !same_bytes(nth(line, 0), b"mend") {
-        return Asked::Bad;
+        return None;
     }
     read_fields(line, room)
 }

@@ -1,27 +1,29 @@
 -- Laws of one answer after another: a refusal to read is the answer, and where lists were read, their rows stand at the tables' starts.
-use Prim.Native.Nat.{ℕ, min}
+use Prim.Native.Nat.{ℕ, ◌≤◌}
 use mathlib.Core.Path.{◌≡◌, refl, sym, ap, ◌∙◌}
 use mathlib.Core.List.{List, [], ◌∷◌, ◌++◌}
 use native.Mathlib.Omega.{arith}
 use lib.Dec.{ltb}
 use lib.ListN.{length, take, length-map}
-use lib.Seq.{length-take-le}
 use borrow.Author.Tests.{ltb-false}
-use Rattle.laws.proofs.Answers.{after_test, front}
+use Rattle.laws.proofs.Answers.{after_test, front, reaches}
 use Rattle.laws.proofs.Rows.{rows_say, stored-length}
 use Rattle.format.specs.Answers.{Answer, accepted, refused, if_accepted, and_then}
 use Rattle.format.specs.Limits.{max_file, max_text}
 use Rattle.format.specs.Plain.{plain_text}
 use Rattle.format.specs.Lists.{lists}
 use Rattle.format.specs.Rows.{region_rows, style_rows, stored_cues}
-use Rattle.format.specs.Converting.{converting}
-use Rattle.format.specs.Reading.{counts, reading, reading_raw, file_reading, after_reading}
+use Rattle.format.specs.Converting.{convert_error, converting}
+use Rattle.format.specs.declared.errors.ConvertError.{ConvertError}
+use Rattle.format.specs.declared.errors.TextError.{TextError}
+use Rattle.format.specs.declared.errors.ListsError.{ListsError}
+use Rattle.format.specs.declared.errors.ReadFileError.{ReadFileError}
+use Rattle.format.specs.Reading.{text_error, lists_error, read_file_error, counts, reading, reading_raw, file_reading, after_reading}
 use Rattle.format.specs.Contents.{stored_contents}
 use Rattle.format.specs.Written.{written}
 use Rattle.format.specs.Writing.{file_of}
 use Rattle.format.specs.Rewriting.{lengths, reading_in, rewritten_file, rewriting, rewritten_room}
 use Rattle.reader.proofs.FileLaws.{counted}
-use Rattle.values.proofs.CutLaws.{take_min}
 
 -- a refusal to read the file is one of converting and reading
 not_read : (a : Answer) (n : ℕ) (us vs : List ℕ) → refused n us ≡ and_then a (accepted vs) → a ≡ refused n us
@@ -43,6 +45,18 @@ pub rewriting-refused :
     → (refused n us ≡ rewriting raw (lengths text cues regions styles out)) × (out ≡ rewritten_room raw (lengths text cues regions styles out) out)
 unfolding rewriting rewritten_room reading_in lengths and_then if_accepted
 rewriting-refused raw text cues regions styles out e = rw (file-refused raw (length text) (length cues) (length regions) (length styles) e) (refl, refl)
+
+-- so it is with each refusal to read the file
+pub not_rewritten :
+    (raw text : List ℕ) (cues regions styles : List (List ℕ)) (out : List ℕ) (e : ReadFileError)
+    → read_file_error e ≡ file_reading raw (length text) (length cues) (length regions) (length styles)
+    → (read_file_error e ≡ rewriting raw (lengths text cues regions styles out)) × (out ≡ rewritten_room raw (lengths text cues regions styles out) out)
+unfolding read_file_error convert_error lists_error text_error
+not_rewritten raw text cues regions styles out (ReadFileError.Convert ConvertError.TooLong) h = rewriting-refused raw text cues regions styles out h
+not_rewritten raw text cues regions styles out (ReadFileError.Convert (ConvertError.RoomTooShort n)) h = rewriting-refused raw text cues regions styles out h
+not_rewritten raw text cues regions styles out (ReadFileError.Lists (ListsError.Text TextError.NoSignature)) h = rewriting-refused raw text cues regions styles out h
+not_rewritten raw text cues regions styles out (ReadFileError.Lists (ListsError.Text TextError.OverLimit)) h = rewriting-refused raw text cues regions styles out h
+not_rewritten raw text cues regions styles out (ReadFileError.Lists (ListsError.TablesTooShort n)) h = rewriting-refused raw text cues regions styles out h
 
 -- where both accept, both answers
 pub record Both (a b : Answer) (vs : List ℕ) : Type 0 where
@@ -91,18 +105,14 @@ file_read raw room cues regions styles c r t n e =
       lists_read = sym (rw three at inner.second);
     }
 
--- the first rows of a table, cut where it ends
-pub first : {A : Type 0} (n k : ℕ) (l : List A) → k ≡ min n (length l) → take n l ≡ take k l
-first n k l e = rw e (take_min n l)
-
-pub first-length : {A : Type 0} (n k : ℕ) (l : List A) → k ≡ min n (length l) → k ≡ length (take k l)
-first-length n k l e = sym (length-take-le k l (omega arith))
-
 -- after lists' counts each table starts with its list's rows
 pub record Starts (s : List ℕ) (c r t : ℕ) (us ws zs : List (List ℕ)) : Type 0 where
   pub cues : take c us ≡ stored_cues s
   pub regions : take r ws ≡ region_rows (lists s).regions
   pub styles : take t zs ≡ style_rows (lists s).styles
+  pub cues_reach : c ≤ length us
+  pub regions_reach : r ≤ length ws
+  pub styles_reach : t ≤ length zs
 
 pub starts :
     (s : List ℕ) (cues₀ regions₀ styles₀ : List (List ℕ)) {c r t : ℕ} {cues regions styles : List (List ℕ)}
@@ -122,6 +132,9 @@ starts s cues₀ regions₀ styles₀ {c} {r} {t} {cues} {regions} {styles} a hc
       cues = front _ cues₀ cues c hc (nc ∙ sym (stored-length s));
       regions = front _ regions₀ regions r hr (nr ∙ sym (length-map l.regions _));
       styles = front _ styles₀ styles t ht (nt ∙ sym (length-map l.styles _));
+      cues_reach = reaches _ cues₀ cues c hc (nc ∙ sym (stored-length s));
+      regions_reach = reaches _ regions₀ regions r hr (nr ∙ sym (length-map l.regions _));
+      styles_reach = reaches _ styles₀ styles t ht (nt ∙ sym (length-map l.styles _));
     }
 
 -- what is written of the rows of a text that was read is the written form of its lists

@@ -4,6 +4,7 @@ use mathlib.Core.Path.{◌≡◌, refl, sym, ap, ◌∙◌}
 use mathlib.Core.List.{List, [], ◌∷◌}
 use native.Mathlib.Omega.{arith}
 use lib.ListN.{length, take}
+use Rattle.std.specs.Prelude.{Result, Ok}
 use Rattle.format.specs.Texts.{starts_with}
 use Rattle.format.specs.Plain.{plain_text}
 use Rattle.format.specs.Lists.{lists}
@@ -12,7 +13,7 @@ use Rattle.format.specs.Writable.{style_fails, region_fails, cue_fails}
 use Rattle.format.specs.Written.{file_lines, line_ended, written}
 use Rattle.format.specs.Answers.{accepted, if_accepted, file_answer, placed}
 use Rattle.format.specs.Writing.{writing_is, first_in, file_of, writing, written_room, ReadBack}
-use Rattle.format.specs.declared.Writing.{Writing}
+use Rattle.format.specs.declared.errors.WriteError.{WriteError}
 use Rattle.laws.proofs.PlainText.{plain_text_keeps}
 use Rattle.laws.proofs.Answers.{front, file-made, reads-again}
 use Rattle.laws.proofs.Rows.{rows_say}
@@ -55,11 +56,11 @@ writes_back s styles regions cues room vs e =
 
 -- the same of the file that a function left in the output room, where it keeps the promise of the answer and of that room
 pub room_back :
-    (s : List ℕ) (styles regions cues : List (List ℕ)) (out left : List ℕ) (r : Writing)
+    (s : List ℕ) (styles regions cues : List (List ℕ)) (out left : List ℕ) (r : Result ℕ WriteError)
     → writing_is r ≡ writing s styles regions cues (length out)
     → left ≡ written_room s styles regions cues out
     → (n : ℕ)
-    → r ≡ Writing.File n
+    → r ≡ Ok n
     → ReadBack (contents_of_rows s styles regions cues) (take n left)
 unfolding writing_is written_room if_accepted
 room_back s styles regions cues out left r e room n q =

@@ -4,7 +4,8 @@ use Prim.Native.Nat.{ℕ, zero, suc, ◌+◌, ◌-◌, ◌/◌, ◌%◌, ◌≤�
 use mathlib.Core.Path.{◌≡◌, refl, sym, ap, ◌∙◌}
 use mathlib.Core.Bool.{Bool, true, false, cond, not, ◌&&◌, ◌||◌, false≢true}
 use mathlib.Core.List.{List, [], ◌∷◌, ◌++◌, map, append_assoc, append-nil}
-use mathlib.Core.Option.{Option, none, some, Option-elim}
+use Rattle.std.specs.Prelude.{Option, None, Some}
+use Rattle.std.specs.Option.{option_map_or}
 use native.Mathlib.Omega.{arith}
 use lib.Dec.{eqb, leb, ltb}
 use lib.ListN.{length, get_or}
@@ -136,7 +137,7 @@ line_align_lem :
     (s : List ℕ) (a old : LineAlign)
     → absent comma s ≡ true
     → (a ≡ LineAlign.Start → old ≡ LineAlign.Start)
-    → line_align (s ++ written_line_align a) old ≡ some a
+    → line_align (s ++ written_line_align a) old ≡ Some a
 unfolding written_line_align line_align same
 line_align_lem s LineAlign.Start old h o = rw (append-nil s, has-none comma s h, o refl)
 line_align_lem s LineAlign.Center old h o = rw (has-after comma s (ascii "center"), after_first_lem comma (ascii "center") s h)
@@ -153,7 +154,7 @@ position_align_lem :
     (s : List ℕ) (a old : PositionAlign)
     → absent comma s ≡ true
     → (a ≡ PositionAlign.Auto → old ≡ PositionAlign.Auto)
-    → position_align (s ++ written_position_align a) old ≡ some a
+    → position_align (s ++ written_position_align a) old ≡ Some a
 unfolding written_position_align position_align same
 position_align_lem s PositionAlign.Auto old h o = rw (append-nil s, has-none comma s h, o refl)
 position_align_lem s PositionAlign.LineLeft old h o = rw (has-after comma s (ascii "line-left"), after_first_lem comma (ascii "line-left") s h)
@@ -205,10 +206,10 @@ module _ (p : ℕ) (s : Settings) where
   align_written Align.Right = (align_read Align.Right (ascii "right") refl refl, tt)
 
   size_read : (m : ℕ) → m ≤ 100_000_000 → cue_change (setting_at p (ascii "size") (written_percentage m)) s ≡ Change.Size m
-  unfolding absent is_empty named same Option-elim
+  unfolding absent is_empty named same
   size_read m h =
       setting_read p (ascii "size") (written_percentage m) s refl refl (written_percentage-some m)
-      ∙ ap (λ o. Option-elim o Change.Nothing Change.Size) (percentage_read m h)
+      ∙ ap (λ o. option_map_or Change.Size o Change.Nothing) (percentage_read m h)
 
   region_read : (name : List ℕ) → is_empty name ≡ false → cue_change (setting_at p (ascii "region") name) s ≡ Change.Region
   unfolding absent is_empty named same
@@ -242,9 +243,9 @@ line_number_lem :
     (x : List ℕ) (old : LineAlign) (snap negative : Bool) (m : ℕ) (a : LineAlign)
     → LineNumbered snap negative m
     → before_first comma x ≡ written_line_number snap negative m
-    → line_align x old ≡ some a
+    → line_align x old ≡ Some a
     → line_change x old ≡ Change.Line (record { line = Line.At negative m; snap = snap; align = a })
-unfolding line_change line_aligned line_at_percentage line_counted Option-elim written_line_number
+unfolding line_change line_aligned line_at_percentage line_counted written_line_number
 line_number_lem x old true negative m a (counted h z) b e =
     let r = line_read negative m h z in
     rw (b, e, line_ends_lem true negative m, r.read, r.within, r.sign, r.value)
@@ -391,12 +392,12 @@ pub data PositionSettable : PositionPlace → Type 0 where
   position_at : {m : ℕ} {b : PositionAlign} → m ≤ 100_000_000 → PositionSettable (record { position = Position.At m; align = b })
 
 abbrev pub region_name : List RegionContents → Option ℕ → List ℕ
-region_name rs none = []
-region_name rs (some i) = get_or (map (λ r. r.id) rs) i []
+region_name rs None = []
+region_name rs (Some i) = get_or (map (λ r. r.id) rs) i []
 
 pub data RegionSettable : List RegionContents → Option ℕ → Type 0 where
-  no_region : {rs : List RegionContents} → RegionSettable rs none
-  region_at : {rs : List RegionContents} {i : ℕ} → is_token (region_name rs (some i)) ≡ true → RegionSettable rs (some i)
+  no_region : {rs : List RegionContents} → RegionSettable rs None
+  region_at : {rs : List RegionContents} {i : ℕ} → is_token (region_name rs (Some i)) ≡ true → RegionSettable rs (Some i)
 
 pub record Settable (rs : List RegionContents) (c : CueContents) : Type 0 where
   pub line : LineSettable c.settings.line
@@ -471,8 +472,8 @@ pub record SettingsRead (rs : List RegionContents) (c : CueContents) (v : Flagge
 
 -- a region comes last: nothing after it clears it
 region_place : Option ℕ → ℕ → ℕ
-region_place none p = 0
-region_place (some i) p = p + 7
+region_place None p = 0
+region_place (Some i) p = p + 7
 
 sets-region :
     (s : Settings) (rs : List RegionContents) (o : Option ℕ) (p : ℕ)
@@ -480,15 +481,15 @@ sets-region :
     → folded cue_setting (unflagged (unasked s)) (parts_at p (written_region_name rs o))
     ≡ unflagged (record { settings = s; region = record { place = region_place o p; bytes = region_name rs o } })
 unfolding written_region_name region_place setting folded parts_at cue_setting changed is_token absent
-sets-region s rs none p no_region = refl
-sets-region s rs (some i) p (region_at t) =
-    let name = region_name rs (some i) in
+sets-region s rs None p no_region = refl
+sets-region s rs (Some i) p (region_at t) =
+    let name = region_name rs (Some i) in
     rw (region_read p s name (not_left (is_empty name) (all black name) t), setting-value (setting_at p (ascii "region") name) (ascii "region") name refl refl)
 
 region-tokens : (rs : List RegionContents) (o : Option ℕ) → RegionSettable rs o → All (λ t. is_token t ≡ true) (written_region_name rs o)
 unfolding written_region_name setting
-region-tokens rs none no_region = tt
-region-tokens rs (some i) (region_at t) = (region_token (region_name rs (some i)) t, tt)
+region-tokens rs None no_region = tt
+region-tokens rs (Some i) (region_at t) = (region_token (region_name rs (Some i)) t, tt)
 
 module _ (rs : List RegionContents) (c : CueContents) (h : Settable rs c) where
   sets_five : Sets (written_five c.settings) opening_settings c.settings
@@ -540,7 +541,7 @@ module _ (start end : ℕ) (rest : List ℕ) where
 -- the timing line of contents
 pub record TimingRead (rs : List RegionContents) (c : CueContents) (o : Option Timing) : Type 0 where
   pub place : ℕ
-  pub is : o ≡ some (record { start = c.start; end = c.end; settings = c.settings; region = named_at rs c place; over = false })
+  pub is : o ≡ Some (record { start = c.start; end = c.end; settings = c.settings; region = named_at rs c place; over = false })
 
 time_line : (ms : ℕ) → absent lf (written_time ms) ≡ true
 unfolding numeral digit
@@ -633,7 +634,7 @@ pub names_of_lem : (s : List ℕ) (rows : List (List ℕ)) → map (λ r. r.id) 
 names_of_lem s [] = refl
 names_of_lem s (r ∷ rows) = rw (names_of_lem s rows)
 
-name_black : (s r : List ℕ) → region_fails s r ≡ none → all black (region_of_row s r).id ≡ true
+name_black : (s r : List ℕ) → region_fails s r ≡ None → all black (region_of_row s r).id ≡ true
 unfolding region_fails region_tests region_test2
 name_black s r e =
     let passed = none-fails 1 (region_test1 s r ∷ region_tests (region_of_row s r)) e in
@@ -642,8 +643,8 @@ name_black s r e =
 
 names_black :
     (s : List ℕ) (rows : List (List ℕ)) (i : ℕ)
-    → All (λ r. region_fails s r ≡ none) rows
-    → all black (region_name (map (region_of_row s) rows) (some i)) ≡ true
+    → All (λ r. region_fails s r ≡ None) rows
+    → all black (region_name (map (region_of_row s) rows) (Some i)) ≡ true
 unfolding all
 names_black s [] zero h = refl
 names_black s [] (suc i) h = refl
@@ -653,13 +654,13 @@ names_black s (r ∷ rows) (suc i) h = names_black s rows i h.1
 region_allowed :
     (rs : List RegionContents) (o : Option ℕ)
     → cue_test6 (map (λ r. r.id) rs) o ≡ true
-    → ((i : ℕ) → all black (region_name rs (some i)) ≡ true)
+    → ((i : ℕ) → all black (region_name rs (Some i)) ≡ true)
     → RegionSettable rs o
 unfolding cue_test6 last_of_its_name is_token
-region_allowed rs none e f = no_region
-region_allowed rs (some i) e f =
+region_allowed rs None e f = no_region
+region_allowed rs (Some i) e f =
     let names = map (λ r. r.id) rs in
-    let name = region_name rs (some i) in
+    let name = region_name rs (Some i) in
     let last = is_index (last_named 0 name names) i in
     let full = and_left (not (is_empty name)) last (and_right (ltb i (length names)) (not (is_empty name) && last) e) in
     region_at (and_both (not (is_empty name)) (all black name) full (f i))
@@ -680,7 +681,7 @@ pub tests_writable :
     → All (λ t. t ≡ true) (cue_tests c)
     → Signed c.settings.line.line
     → cue_test6 (map (λ r. r.id) rs) o ≡ true
-    → ((i : ℕ) → all black (region_name rs (some i)) ≡ true)
+    → ((i : ℕ) → all black (region_name rs (Some i)) ≡ true)
     → CueWritable rs (with_region o c)
 unfolding cue_tests cue_test2 cue_test3 cue_test4 cue_test5 with_region at_most100
 tests_writable rs o c tests signed allowed names =
@@ -715,8 +716,8 @@ all_front P (x ∷ xs) ys h = (h.0, all_front P xs ys h.1)
 
 pub cue_writable :
     (s : List ℕ) (rows : List (List ℕ)) (w : List ℕ)
-    → cue_fails s rows w ≡ none
-    → All (λ r. region_fails s r ≡ none) rows
+    → cue_fails s rows w ≡ None
+    → All (λ r. region_fails s r ≡ None) rows
     → CueWritable (map (region_of_row s) rows) (cue_of_row s w)
 unfolding cue_fails cue_tests cue_of_entry with_region
 cue_writable s rows w e h =

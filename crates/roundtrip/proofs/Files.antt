@@ -4,7 +4,7 @@ use Prim.Native.Nat.{ℕ, ◌+◌}
 use mathlib.Core.Path.{◌≡◌, refl, sym, ap, subst, ◌∙◌}
 use mathlib.Core.Bool.{Bool, true, false, not, ◌||◌, true≢false}
 use mathlib.Core.List.{List, [], ◌∷◌, ◌++◌, map, append-nil, append_assoc}
-use mathlib.Core.Option.{Option, none, some}
+use Rattle.std.specs.Prelude.{Option, None, Some}
 use native.Mathlib.Omega.{arith}
 use lib.Dec.{ltb}
 use lib.ListN.{length, get_or}
@@ -69,10 +69,10 @@ regions_add (r ∷ rs) rest h =
       over = more.over;
     })
 
-index_is_lem : (o : Option ℕ) (i : ℕ) → is_index o i ≡ true → o ≡ some i
+index_is_lem : (o : Option ℕ) (i : ℕ) → is_index o i ≡ true → o ≡ Some i
 unfolding is_index
-index_is_lem none i e = absurd (true≢false (sym e))
-index_is_lem (some j) i e = ap some (eqb-true j i e)
+index_is_lem None i e = absurd (true≢false (sym e))
+index_is_lem (Some j) i e = ap Some (eqb-true j i e)
 
 -- the region of a written cue is found again
 region_back :
@@ -81,8 +81,8 @@ region_back :
     → cue_test6 (map (λ r. r.id) rs) o ≡ true
     → region_for read (record { place = p; bytes = region_name rs o }) ≡ o
 unfolding region_for cue_test6 last_of_its_name is_empty
-region_back rs read none p e a = refl
-region_back rs read (some i) p e a =
+region_back rs read None p e a = refl
+region_back rs read (Some i) p e a =
     let names = map (λ r. r.id) rs in
     let name = get_or names i [] in
     let rest = and_right (ltb i (length names)) _ a in
@@ -235,27 +235,27 @@ module _ (c : Contents) (styles : All (λ t. unbroken t ≡ true) c.styles) (reg
         same = contents-same false (blocks (file_of (one ++ two ++ three))) (map (lines_at 0 0) (one ++ two ++ three)) found ∙ contents_back;
       }
 
-unfailing : (list i : ℕ) (o : Option ℕ) (later : Option (List ℕ)) → or_else o list i later ≡ none → (o ≡ none) × (later ≡ none)
+unfailing : (list i : ℕ) (o : Option ℕ) (later : Option (List ℕ)) → or_else o list i later ≡ None → (o ≡ None) × (later ≡ None)
 unfolding or_else
-unfailing list i none later e = (refl, e)
-unfailing list i (some t) later e = let z : ◌≡◌ {A = ℕ} 0 1 = cc in absurd (omega arith)
+unfailing list i None later e = (refl, e)
+unfailing list i (Some t) later e = let z : ◌≡◌ {A = ℕ} 0 1 = cc in absurd (omega arith)
 
 -- rows that no test refuses
 none_first :
-    (list : ℕ) (fails : List ℕ → Option ℕ) (i : ℕ) (ws : List (List ℕ)) → first_in list fails i ws ≡ none → All (λ w. fails w ≡ none) ws
+    (list : ℕ) (fails : List ℕ → Option ℕ) (i : ℕ) (ws : List (List ℕ)) → first_in list fails i ws ≡ None → All (λ w. fails w ≡ None) ws
 unfolding first_in
 none_first list fails i [] e = tt
 none_first list fails i (w ∷ ws) e =
     let h = unfailing list i (fails w) (first_in list fails (i + 1) ws) e in (h.0, none_first list fails (i + 1) ws h.1)
 
 -- an answer that accepts was refused by no test
-pub accepts : (o : Option (List ℕ)) (answer : Answer) (vs : List ℕ) → unless_failing o answer ≡ accepted vs → (o ≡ none) × (answer ≡ accepted vs)
+pub accepts : (o : Option (List ℕ)) (answer : Answer) (vs : List ℕ) → unless_failing o answer ≡ accepted vs → (o ≡ None) × (answer ≡ accepted vs)
 unfolding unless_failing
-accepts none answer vs e = (refl, e)
-accepts (some us) answer vs e = let z : ◌≡◌ {A = ℕ} 0 1 = cc in absurd (omega arith)
+accepts None answer vs e = (refl, e)
+accepts (Some us) answer vs e = let z : ◌≡◌ {A = ℕ} 0 1 = cc in absurd (omega arith)
 
 -- a style that passes is whole
-style-passes : (s w : List ℕ) → style_fails s w ≡ none → unbroken (style_of_row s w) ≡ true
+style-passes : (s w : List ℕ) → style_fails s w ≡ None → unbroken (style_of_row s w) ≡ true
 unfolding style_fails
 style-passes s w e = (none-fails 1 (style_test1 s (style_entry w) ∷ unbroken (style_of_row s w) ∷ []) e).1.0
 
@@ -263,15 +263,15 @@ each : {A : Type 0} (P Q : A → Type 0) → ((x : A) → P x → Q x) → (xs :
 each P Q f [] h = tt
 each P Q f (x ∷ xs) h = (f x h.0, each P Q f xs h.1)
 
-style_test1_lem : (s w : List ℕ) → style_fails s w ≡ none → style_test1 s (style_entry w) ≡ true
+style_test1_lem : (s w : List ℕ) → style_fails s w ≡ None → style_test1 s (style_entry w) ≡ true
 unfolding style_fails
 style_test1_lem s w e = (none-fails 1 (style_test1 s (style_entry w) ∷ unbroken (style_of_row s w) ∷ []) e).0
 
-region_test1_lem : (s w : List ℕ) → region_fails s w ≡ none → region_test1 s w ≡ true
+region_test1_lem : (s w : List ℕ) → region_fails s w ≡ None → region_test1 s w ≡ true
 unfolding region_fails
 region_test1_lem s w e = (none-fails 1 (region_test1 s w ∷ region_tests (region_of_row s w)) e).0
 
-cue_test1_lem : (s : List ℕ) (rows : List (List ℕ)) (w : List ℕ) → cue_fails s rows w ≡ none → cue_test1 s w ≡ true
+cue_test1_lem : (s : List ℕ) (rows : List (List ℕ)) (w : List ℕ) → cue_fails s rows w ≡ None → cue_test1 s w ≡ true
 unfolding cue_fails
 cue_test1_lem s rows w e =
     let c = cue_of_row s w in
@@ -290,15 +290,15 @@ round_trip s styles regions cues room vs e =
     let a = none_first 0 (style_fails s) 0 styles rest.0 in
     let b = none_first 1 (region_fails s) 0 regions more.0 in
     let d = none_first 2 (cue_fails s regions) 0 cues last.0 in
-    let texts = all_map (λ w. style_fails s w ≡ none) (λ t. unbroken t ≡ true) (style_of_row s) (style-passes s) styles a in
-    let known = all_map (λ w. region_fails s w ≡ none) Regional (region_of_row s) (region-passes s) regions b in
+    let texts = all_map (λ w. style_fails s w ≡ None) (λ t. unbroken t ≡ true) (style_of_row s) (style-passes s) styles a in
+    let known = all_map (λ w. region_fails s w ≡ None) Regional (region_of_row s) (region-passes s) regions b in
     let known-cues =
-    all_map (λ w. cue_fails s regions w ≡ none) (CueWritable (map (region_of_row s) regions)) (cue_of_row s)
+    all_map (λ w. cue_fails s regions w ≡ None) (CueWritable (map (region_of_row s) regions)) (cue_of_row s)
     (λ w q. cue_writable s regions w q b) cues d in
     let plain =
     rows-plain s styles regions cues
-    (each (λ w. style_fails s w ≡ none) (λ w. style_test1 s (style_entry w) ≡ true) (style_test1_lem s) styles a)
-    (each (λ w. region_fails s w ≡ none) (λ w. region_test1 s w ≡ true) (region_test1_lem s) regions b)
-    (each (λ w. cue_fails s regions w ≡ none) (λ w. cue_test1 s w ≡ true) (cue_test1_lem s regions) cues d) in
+    (each (λ w. style_fails s w ≡ None) (λ w. style_test1 s (style_entry w) ≡ true) (style_test1_lem s) styles a)
+    (each (λ w. region_fails s w ≡ None) (λ w. region_test1 s w ≡ true) (region_test1_lem s) regions b)
+    (each (λ w. cue_fails s regions w ≡ None) (λ w. cue_test1 s w ≡ true) (cue_test1_lem s regions) cues d) in
     let c = contents_of_rows s styles regions cues in
     read_back c texts known known-cues (plain-written c plain)

@@ -3,7 +3,7 @@ use Prim.Native.Nat.{ℕ, zero, suc, ◌+◌, ◌-◌, ◌*◌, ◌/◌, ◌%◌
 use mathlib.Core.Path.{◌≡◌, refl, sym, ap, ◌∙◌}
 use mathlib.Core.Bool.{Bool, true, false, cond, not, ◌&&◌, ◌||◌, true≢false, false≢true}
 use mathlib.Core.List.{List, [], ◌∷◌, ◌++◌, append_assoc}
-use mathlib.Core.Option.{some}
+use Rattle.std.specs.Prelude.{Some}
 use native.Mathlib.Nat.{mul-le-mul_right, pow-succ', pow-le-pow_right}
 use native.Mathlib.Omega.{arith}
 use lib.Dec.{leb, ltb, eqb}
@@ -312,7 +312,7 @@ decimal_of_read :
     (whole ds : List ℕ)
     → is_empty whole ≡ false
     → all digit ds ≡ true
-    → decimal_of whole (fraction ds) ≡ some (record { whole = whole; fraction = ds })
+    → decimal_of whole (fraction ds) ≡ Some (record { whole = whole; fraction = ds })
 unfolding decimal_of fraction some_digits is_empty
 decimal_of_read whole [] e f = rw e
 decimal_of_read whole (d ∷ ds) e f = rw (e, f)
@@ -323,7 +323,7 @@ whole-some m = decimal-some 1 (m / 1_000_000) (omega arith) (omega arith)
 pub fraction-all : (m : ℕ) → all digit (without_zeros (last_digits 6 (m % 1_000_000))) ≡ true
 fraction-all m = without_zeros-all digit (last_digits 6 (m % 1_000_000)) (digits-all 6 (m % 1_000_000))
 
-pub decimal_read : (m : ℕ) → decimal (written_decimal m) ≡ some (decimal_for m)
+pub decimal_read : (m : ℕ) → decimal (written_decimal m) ≡ Some (decimal_for m)
 unfolding decimal written_decimal
 decimal_read m =
     let whole = decimal_in 1 (m / 1_000_000) in
@@ -351,7 +351,7 @@ not-above limit m l h =
     (λ y. let e : m % 1_000_000 ≡ 0 = omega (arith, eqb-true (m / 1_000_000) limit y) in rw (y, e))
     (λ n. rw n))
 
-pub percentage_read : (m : ℕ) → m ≤ 100_000_000 → percentage (written_percentage m) ≡ some m
+pub percentage_read : (m : ℕ) → m ≤ 100_000_000 → percentage (written_percentage m) ≡ Some m
 unfolding percentage written_percentage up_to100
 percentage_read m h =
     let s = written_decimal m in
@@ -361,7 +361,7 @@ percentage_read m h =
 -- a line's number
 pub record LineRead (negative : Bool) (m : ℕ) : Type 0 where
   pub line : LineNumber
-  pub read : line_number (cond negative (hyphen ∷ []) [] ++ written_decimal m) ≡ some line
+  pub read : line_number (cond negative (hyphen ∷ []) [] ++ written_decimal m) ≡ Some line
   pub within : over_line line ≡ false
   pub sign : is_negative line ≡ negative
   pub value : millionths line.size ≡ m
@@ -400,7 +400,7 @@ line_read negative m h p =
     sign_is false p = refl
 
 -- a count of lines
-pub count_read : (n : ℕ) → n ≤ 999_999 → line_count (decimal_in 1 n) ≡ some n
+pub count_read : (n : ℕ) → n ≤ 999_999 → line_count (decimal_in 1 n) ≡ Some n
 unfolding line_count some_digits
 count_read n h =
     rw (decimal-some 1 n (omega arith) (omega arith), decimal-all 1 n, decimal-value 1 n (omega arith))

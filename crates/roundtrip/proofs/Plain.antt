@@ -3,7 +3,7 @@ use Prim.Native.Nat.{ℕ, zero, suc, pred, ◌+◌, ◌≤◌}
 use mathlib.Core.Path.{◌≡◌, refl, sym, ap, ◌∙◌}
 use mathlib.Core.Bool.{Bool, true, false, not, ◌&&◌}
 use mathlib.Core.List.{List, [], ◌∷◌, ◌++◌, map, append_assoc}
-use mathlib.Core.Option.{Option, none, some}
+use Rattle.std.specs.Prelude.{Option, None, Some}
 use native.Mathlib.Omega.{arith}
 use lib.Dec.{leb, ltb, eqb}
 use lib.ListN.{length, get_or, take, drop, length-append, take-append-drop}
@@ -241,8 +241,8 @@ PlainRegion r = Plain r.id
 
 plain_region_name : (rs : List RegionContents) (o : Option ℕ) → All PlainRegion rs → All Plain (written_region_name rs o)
 unfolding written_region_name all plain_byte
-plain_region_name rs none h = tt
-plain_region_name rs (some i) h =
+plain_region_name rs None h = tt
+plain_region_name rs (Some i) h =
     let ids = map (λ r. r.id) rs in
     plain-setting (ascii "region") (get_or ids i []) refl (plain_at ids i (all_map PlainRegion Plain (λ r. r.id) (λ r p. p) rs h))
 

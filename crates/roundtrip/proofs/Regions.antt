@@ -4,7 +4,8 @@ use Prim.Native.Nat.{ℕ, suc, ◌+◌, ◌≤◌, ◌<◌}
 use mathlib.Core.Path.{◌≡◌, refl, sym, ap, ◌∙◌}
 use mathlib.Core.Bool.{true, false, not, ◌&&◌}
 use mathlib.Core.List.{List, [], ◌∷◌, ◌++◌, append_assoc, append-nil}
-use mathlib.Core.Option.{none, some, Option-elim}
+use Rattle.std.specs.Prelude.{None, Some}
+use Rattle.std.specs.Option.{option_map_or}
 use native.Mathlib.Omega.{arith}
 use lib.Dec.{eqb}
 use lib.ListN.{length, length-append}
@@ -146,7 +147,7 @@ pub record Percents (p : Point) : Type 0 where
   pub x : p.x ≤ 100_000_000
   pub y : p.y ≤ 100_000_000
 
-pub point_read : (p : Point) → Percents p → point (written_point p) ≡ some p
+pub point_read : (p : Point) → Percents p → point (written_point p) ≡ Some p
 unfolding point point_of written_point numeral digit
 point_read p h =
     let x = written_percentage p.x in
@@ -178,7 +179,7 @@ module _ (p : ℕ) where
       (m : ℕ)
       → m ≤ 100_000_000
       → region_change (record { place = p; bytes = ascii "width" ++ colon ∷ written_percentage m }) ≡ RegionChange.Width m
-  unfolding region_named same Option-elim
+  unfolding region_named same
   width_read m h = changes (ascii "width") (written_percentage m) width_name (written_percentage-some m) ∙ rw (percentage_read m h)
 
   lines_read :
@@ -193,14 +194,14 @@ module _ (p : ℕ) where
       (at : Point)
       → Percents at
       → region_change (record { place = p; bytes = ascii "regionanchor" ++ colon ∷ written_point at }) ≡ RegionChange.Anchor at
-  unfolding region_named same Option-elim
+  unfolding region_named same
   anchor_read at h = changes (ascii "regionanchor") (written_point at) anchor_name (point-value at).full ∙ rw (point_read at h)
 
   viewport_read :
       (at : Point)
       → Percents at
       → region_change (record { place = p; bytes = ascii "viewportanchor" ++ colon ∷ written_point at }) ≡ RegionChange.Viewport at
-  unfolding region_named same Option-elim
+  unfolding region_named same
   viewport_read at h = changes (ascii "viewportanchor") (written_point at) viewport_name (point-value at).full ∙ rw (point_read at h)
 
   scroll_read : region_change (record { place = p; bytes = ascii "scroll" ++ colon ∷ ascii "up" }) ≡ RegionChange.Scroll
@@ -369,7 +370,7 @@ up_to_100 : (n : ℕ) → at_most100 n ≡ true → n ≤ 100_000_000
 unfolding at_most100
 up_to_100 n e = leb-true n 100_000_000 e
 
-pub region-passes : (s w : List ℕ) → region_fails s w ≡ none → Regional (region_of_row s w)
+pub region-passes : (s w : List ℕ) → region_fails s w ≡ None → Regional (region_of_row s w)
 unfolding region_fails region_tests region_test2 region_test3 region_test4
 region-passes s w e =
     let r = region_of_row s w in

@@ -4,7 +4,7 @@ use Prim.Native.Nat.{ℕ, suc, ◌+◌}
 use mathlib.Core.Path.{◌≡◌, refl, sym, ap, ◌∙◌}
 use mathlib.Core.Bool.{Bool, true, false, cond, not, ◌&&◌, ◌||◌, false≢true, true≢false}
 use mathlib.Core.List.{List, [], ◌∷◌, ◌++◌, map, append_assoc, append-nil}
-use mathlib.Core.Option.{none}
+use Rattle.std.specs.Prelude.{None}
 use native.Mathlib.Omega.{arith}
 use lib.Dec.{eqb}
 use lib.ListN.{length, length-append}
@@ -635,7 +635,7 @@ region_means k p l ls n =
     ∙ ap (λ q. region_of (region_settings q)) (joined-lines (suc k) (p + 7) l ls)
 
 -- a row that no test refuses passes each of them
-pub none-fails : (n : ℕ) (ts : List Bool) → first_failing n ts ≡ none → All (λ t. t ≡ true) ts
+pub none-fails : (n : ℕ) (ts : List Bool) → first_failing n ts ≡ None → All (λ t. t ≡ true) ts
 unfolding first_failing
 none-fails n [] e = tt
 none-fails n (true ∷ ts) e = (refl, none-fails (n + 1) ts e)

@@ -1,97 +1,54 @@
--- Laws of rows that the functions' proofs cite: the codes of a cue's row, and its words.
-use Prim.Native.Nat.{ℕ, ◌≤◌, ◌<◌}
-use mathlib.Core.Path.{◌≡◌, refl}
+-- A row that has the words of another before its region, and zeros after them.
+use Prim.Native.Nat.{ℕ, ◌-◌, ◌≤◌, ◌<◌}
+use mathlib.Core.Path.{refl, ◌≡◌, ◌∙◌}
 use mathlib.Core.Bool.{Bool, false, ◌&&◌}
-use mathlib.Core.List.{List, [], ◌∷◌}
-use lib.Dec.{ltb}
-use borrow.Author.Tests.{le-ltb, lt-ltb}
-use Rattle.format.specs.Rows.{word, cue_codes_named, cue_words, direction_word, line_word, line_number_word, snap_word, line_align_word, position_word, position_number_word, position_align_word, align_word, region_word}
+use mathlib.Core.List.{List, [], ◌∷◌, ◌++◌}
+use native.Mathlib.Omega.{arith}
+use lib.ListN.{length, take, get_or-append}
+use lib.Seq.{length-take-le}
+use Rattle.std.proofs.lemmas.List.{get_or-take, get_or-append_right}
 use Rattle.laws.proofs.Tests.{and-false}
-use Rattle.format.specs.declared.rows.CueEntry.{CueEntry}
-use Rattle.format.specs.declared.rows.LineSpan.{LineSpan}
+use Rattle.format.specs.Rows.{word, cue_entry, cue_span, new_cue_entry, cue_codes_named}
 
+-- no test passes beside one that fails
 pub and_none : (t : Bool) → t && false ≡ false
 and_none t = and-false t false refl
 
--- one code that names no choice
-module _ (w : List ℕ) where
-  pub unnamed_6 : 3 ≤ word 6 w → false ≡ cue_codes_named w
+module _ (row : List ℕ) (h : 16 ≤ length row) where
+  abbrev zeros : List ℕ
+  zeros = 0 ∷ 0 ∷ 0 ∷ []
+
+  at : (i : ℕ) → i < 16 → word i (take 16 row ++ zeros) ≡ word i row
+  at i l = get_or-append (take 16 row) zeros 0 i (omega (arith, length-take-le 16 row h)) ∙ get_or-take 16 row i 0 l
+
+  after : (i : ℕ) → 16 ≤ i → word i (take 16 row ++ zeros) ≡ word (i - 16) zeros
+  after i l = get_or-append_right (take 16 row) zeros 16 i 0 (length-take-le 16 row h) l
+
+  pub same_codes : cue_codes_named (take 16 row ++ zeros) ≡ cue_codes_named row
   unfolding cue_codes_named
-  unnamed_6 l = rw (le-ltb _ _ l)
+  same_codes = rw (at 6 (omega arith), at 7 (omega arith), at 9 (omega arith), at 10 (omega arith), at 11 (omega arith), at 13 (omega arith), at 15 (omega arith))
 
-  pub unnamed_7 : 3 ≤ word 7 w → false ≡ cue_codes_named w
-  unfolding cue_codes_named
-  unnamed_7 l = rw (le-ltb _ _ l, and_none)
+  pub same_entry : cue_entry (take 16 row ++ zeros) ≡ new_cue_entry row
+  same_entry =
+      rw (
+        at 0 (omega arith),
+        at 1 (omega arith),
+        at 2 (omega arith),
+        at 3 (omega arith),
+        at 4 (omega arith),
+        at 5 (omega arith),
+        at 6 (omega arith),
+        at 7 (omega arith),
+        at 8 (omega arith),
+        at 9 (omega arith),
+        at 10 (omega arith),
+        at 11 (omega arith),
+        at 12 (omega arith),
+        at 13 (omega arith),
+        at 14 (omega arith),
+        at 15 (omega arith),
+        after 16 (omega arith),
+      )
 
-  pub unnamed_9 : 2 ≤ word 9 w → false ≡ cue_codes_named w
-  unfolding cue_codes_named
-  unnamed_9 l = rw (le-ltb _ _ l, and_none, and_none)
-
-  pub unnamed_10 : 3 ≤ word 10 w → false ≡ cue_codes_named w
-  unfolding cue_codes_named
-  unnamed_10 l = rw (le-ltb _ _ l, and_none, and_none, and_none)
-
-  pub unnamed_11 : 2 ≤ word 11 w → false ≡ cue_codes_named w
-  unfolding cue_codes_named
-  unnamed_11 l = rw (le-ltb _ _ l, and_none, and_none, and_none, and_none)
-
-  pub unnamed_13 : 4 ≤ word 13 w → false ≡ cue_codes_named w
-  unfolding cue_codes_named
-  unnamed_13 l = rw (le-ltb _ _ l, and_none, and_none, and_none, and_none, and_none)
-
--- the last test decides where the others hold
-pub last_code :
-    (w : List ℕ)
-    → word 6 w < 3
-    → word 7 w < 3
-    → word 9 w < 2
-    → word 10 w < 3
-    → word 11 w < 2
-    → word 13 w < 4
-    → ltb (word 15 w) 5 ≡ cue_codes_named w
-unfolding cue_codes_named
-last_code w a b c d e f =
-    rw (
-      lt-ltb (word 6 w) 3 a,
-      lt-ltb (word 7 w) 3 b,
-      lt-ltb (word 9 w) 2 c,
-      lt-ltb (word 10 w) 3 d,
-      lt-ltb (word 11 w) 2 e,
-      lt-ltb (word 13 w) 4 f,
-    )
-
--- a row whose coded words are those of the entry's choices
-pub row_is :
-    (e : CueEntry) (lines : LineSpan) {d l n s la p m pa a i : ℕ}
-    → d ≡ direction_word e.settings.vertical
-    → l ≡ line_word e.settings.line.line
-    → n ≡ line_number_word e.settings.line.line
-    → s ≡ snap_word e.settings.line.snap
-    → la ≡ line_align_word e.settings.line.align
-    → p ≡ position_word e.settings.position.position
-    → m ≡ position_number_word e.settings.position.position
-    → pa ≡ position_align_word e.settings.position.align
-    → a ≡ align_word e.settings.align
-    → i ≡ region_word e.region
-    → e.id.from
-    ∷ e.id.to
-    ∷ e.start
-    ∷ e.end
-    ∷ e.text.from
-    ∷ e.text.to
-    ∷ d
-    ∷ l
-    ∷ n
-    ∷ s
-    ∷ la
-    ∷ p
-    ∷ m
-    ∷ pa
-    ∷ e.settings.size
-    ∷ a
-    ∷ i
-    ∷ lines.first
-    ∷ lines.count
-    ∷ []
-    ≡ cue_words e lines
-row_is e lines ed el en es ela ep em epa ea ei = rw (ed, el, en, es, ela, ep, em, epa, ea, ei)
+  pub no_lines : cue_span (take 16 row ++ zeros) ≡ record { first = 0; count = 0 }
+  no_lines = rw (after 17 (omega arith), after 18 (omega arith))

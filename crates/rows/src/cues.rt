@@ -2,17 +2,16 @@
 ghost use Rattle.std.specs.Prelude.{◌≡◌};
 ghost use Rattle.format.specs.Rows.{cue_entry, cue_span, cue_codes_named};
 
-use super::choices;
+use super::{choices, spans};
 use format::rows::*;
-use format::settings::{Align, Direction, LinePlace, PositionPlace, Span};
+use format::settings::{
+    Align, Direction, LineAlign, LinePlace, PositionAlign, PositionPlace, Span,
+};
 
 pub fn id(row: CueRow) -> Span
     ensures { result ≡ (cue_entry row).id }
 {
-    Span {
-        from: row[CUE_ID_FROM] as usize,
-        to: row[CUE_ID_TO] as usize,
-    }
+    spans::span(row[CUE_ID_FROM], row[CUE_ID_TO])
 }
 
 // In milliseconds.
@@ -31,16 +30,13 @@ pub fn end(row: CueRow) -> u64
 pub fn text(row: CueRow) -> Span
     ensures { result ≡ (cue_entry row).text }
 {
-    Span {
-        from: row[CUE_TEXT_FROM] as usize,
-        to: row[CUE_TEXT_TO] as usize,
-    }
+    spans::span(row[CUE_TEXT_FROM], row[CUE_TEXT_TO])
 }
 
 pub fn vertical(row: CueRow) -> Direction
     ensures { result ≡ (cue_entry row).settings.vertical }
 {
-    choices::direction(row[CUE_VERTICAL])
+    Direction::try_from(row[CUE_VERTICAL]).unwrap_or(Direction::Lr)
 }
 
 pub fn line(row: CueRow) -> LinePlace
@@ -49,7 +45,7 @@ pub fn line(row: CueRow) -> LinePlace
     LinePlace {
         line: choices::line(row[CUE_LINE], row[CUE_LINE_NUMBER]),
         snap: row[CUE_SNAP] == 0,
-        align: choices::line_align(row[CUE_LINE_ALIGN]),
+        align: LineAlign::try_from(row[CUE_LINE_ALIGN]).unwrap_or(LineAlign::End),
     }
 }
 
@@ -58,7 +54,7 @@ pub fn position(row: CueRow) -> PositionPlace
 {
     PositionPlace {
         position: choices::position(row[CUE_POSITION], row[CUE_POSITION_NUMBER]),
-        align: choices::position_align(row[CUE_POSITION_ALIGN]),
+        align: PositionAlign::try_from(row[CUE_POSITION_ALIGN]).unwrap_or(PositionAlign::LineRight),
     }
 }
 
@@ -72,10 +68,10 @@ pub fn size(row: CueRow) -> u64
 pub fn align(row: CueRow) -> Align
     ensures { result ≡ (cue_entry row).settings.align }
 {
-    choices::align(row[CUE_ALIGN])
+    Align::try_from(row[CUE_ALIGN]).unwrap_or(Align::Right)
 }
 
-pub fn region(row: CueRow) -> RegionIndex
+pub fn region(row: CueRow) -> Option<u64>
     ensures { result ≡ (cue_entry row).region }
 {
     choices::region(row[CUE_REGION])
@@ -92,26 +88,15 @@ pub fn lines(row: CueRow) -> LineSpan
 }
 
 // Does each code of the row name a choice.
+#[tactic(auto, unfolding(format::specs::Rows::cue_codes_named))]
 pub fn are_named(row: CueRow) -> bool
     ensures { result ≡ cue_codes_named row }
 {
-    if 3 <= row[CUE_VERTICAL] {
-        return false;
-    }
-    if 3 <= row[CUE_LINE] {
-        return false;
-    }
-    if 2 <= row[CUE_SNAP] {
-        return false;
-    }
-    if 3 <= row[CUE_LINE_ALIGN] {
-        return false;
-    }
-    if 2 <= row[CUE_POSITION] {
-        return false;
-    }
-    if 4 <= row[CUE_POSITION_ALIGN] {
-        return false;
-    }
-    row[CUE_ALIGN] < 5
+    Direction::try_from(row[CUE_VERTICAL]).is_ok()
+        && row[CUE_LINE] < 3
+        && row[CUE_SNAP] < 2
+        && LineAlign::try_from(row[CUE_LINE_ALIGN]).is_ok()
+        && row[CUE_POSITION] < 2
+        && PositionAlign::try_from(row[CUE_POSITION_ALIGN]).is_ok()
+        && Align::try_from(row[CUE_ALIGN]).is_ok()
 }

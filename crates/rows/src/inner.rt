@@ -8,26 +8,7 @@ use format::rows::*;
 pub fn cue_of_new(row: NewCueRow) -> CueRow
     ensures { (cue_entry result ≡ new_cue_entry row) × (cue_codes_named result ≡ cue_codes_named row) × (cue_span result ≡ record { first = 0; count = 0 }) }
 {
-    let none = LineSpan::NONE;
-    [
-        row[CUE_ID_FROM],
-        row[CUE_ID_TO],
-        row[CUE_START],
-        row[CUE_END],
-        row[CUE_TEXT_FROM],
-        row[CUE_TEXT_TO],
-        row[CUE_VERTICAL],
-        row[CUE_LINE],
-        row[CUE_LINE_NUMBER],
-        row[CUE_SNAP],
-        row[CUE_LINE_ALIGN],
-        row[CUE_POSITION],
-        row[CUE_POSITION_NUMBER],
-        row[CUE_POSITION_ALIGN],
-        row[CUE_SIZE],
-        row[CUE_ALIGN],
-        0,
-        none.first,
-        none.count,
-    ]
+    let mut cue = [0; CUE_WORDS];
+    cue[..CUE_REGION].copy_from_slice(&row[..CUE_REGION]);
+    cue
 }

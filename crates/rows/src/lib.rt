@@ -6,6 +6,7 @@ mod choices;
 pub mod cues;
 pub mod inner;
 pub mod regions;
+mod spans;
 pub mod styles;
 mod words;
 
@@ -21,15 +22,8 @@ pub fn cue_row(entry: CueEntry, lines: LineSpan) -> CueRow
     ensures { result ≡ cue_words entry lines }
 {
     let settings = entry.settings;
-    let vertical = settings.vertical;
-    let place = settings.line;
-    let line = place.line;
-    let align = place.align;
-    let at = settings.position;
-    let position = at.position;
-    let anchor = at.align;
-    let across = settings.align;
-    let region = entry.region;
+    let line = settings.line.line;
+    let position = settings.position.position;
     [
         entry.id.from as u64,
         entry.id.to as u64,
@@ -37,17 +31,17 @@ pub fn cue_row(entry: CueEntry, lines: LineSpan) -> CueRow
         entry.end,
         entry.text.from as u64,
         entry.text.to as u64,
-        words::direction(vertical),
+        u64::from(settings.vertical),
         words::line(line),
         words::line_number(line),
-        words::snap(place.snap),
-        words::line_align(align),
+        words::snap(settings.line.snap),
+        u64::from(settings.line.align),
         words::position(position),
         words::position_number(position),
-        words::position_align(anchor),
+        u64::from(settings.position.align),
         settings.size,
-        words::align(across),
-        words::region(region),
+        u64::from(settings.align),
+        words::region(entry.region),
         lines.first,
         lines.count,
     ]
@@ -58,7 +52,6 @@ pub fn region_row(region: Region) -> RegionRow
     ensures { result ≡ region_words region }
 {
     let settings = region.settings;
-    let scroll = settings.scroll;
     [
         region.id.from as u64,
         region.id.to as u64,
@@ -68,7 +61,7 @@ pub fn region_row(region: Region) -> RegionRow
         settings.anchor.y,
         settings.viewport.x,
         settings.viewport.y,
-        words::scroll(scroll),
+        u64::from(settings.scroll),
     ]
 }
 
@@ -84,44 +77,21 @@ pub fn new_cue_row(entry: CueEntry, name: Span) -> NewCueRow
     ensures { result ≡ new_cue_words entry name }
 {
     let row = cue_row(entry, LineSpan::NONE);
-    [
-        row[CUE_ID_FROM],
-        row[CUE_ID_TO],
-        row[CUE_START],
-        row[CUE_END],
-        row[CUE_TEXT_FROM],
-        row[CUE_TEXT_TO],
-        row[CUE_VERTICAL],
-        row[CUE_LINE],
-        row[CUE_LINE_NUMBER],
-        row[CUE_SNAP],
-        row[CUE_LINE_ALIGN],
-        row[CUE_POSITION],
-        row[CUE_POSITION_NUMBER],
-        row[CUE_POSITION_ALIGN],
-        row[CUE_SIZE],
-        row[CUE_ALIGN],
-        name.from as u64,
-        name.to as u64,
-        0,
-        0,
-    ]
+    let mut new = [0; NEW_CUE_WORDS];
+    new[..CUE_REGION].copy_from_slice(&row[..CUE_REGION]);
+    new[NEW_CUE_NAME_FROM] = name.from as u64;
+    new[NEW_CUE_NAME_TO] = name.to as u64;
+    new
 }
 
 pub fn new_cue_name(row: NewCueRow) -> Span
     ensures { result ≡ new_cue_name row }
 {
-    Span {
-        from: row[NEW_CUE_NAME_FROM] as usize,
-        to: row[NEW_CUE_NAME_TO] as usize,
-    }
+    spans::span(row[NEW_CUE_NAME_FROM], row[NEW_CUE_NAME_TO])
 }
 
 pub fn new_cue_id(row: NewCueRow) -> Span
     ensures { result ≡ (new_cue_entry row).id }
 {
-    Span {
-        from: row[CUE_ID_FROM] as usize,
-        to: row[CUE_ID_TO] as usize,
-    }
+    spans::span(row[CUE_ID_FROM], row[CUE_ID_TO])
 }

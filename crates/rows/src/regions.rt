@@ -2,18 +2,15 @@
 ghost use Rattle.std.specs.Prelude.{◌≡◌};
 ghost use Rattle.format.specs.Rows.{region_entry, region_codes_named};
 
-use super::choices;
-use format::regions::{Point, Region, RegionSettings};
+use super::spans;
+use format::regions::{Point, Region, RegionSettings, Scroll};
 use format::rows::*;
 use format::settings::Span;
 
 pub fn id(row: RegionRow) -> Span
     ensures { result ≡ (region_entry row).id }
 {
-    Span {
-        from: row[REGION_ID_FROM] as usize,
-        to: row[REGION_ID_TO] as usize,
-    }
+    spans::span(row[REGION_ID_FROM], row[REGION_ID_TO])
 }
 
 // The region; a code that names no choice is not asked for.
@@ -33,14 +30,15 @@ pub fn entry(row: RegionRow) -> Region
                 x: row[REGION_VIEWPORT_X],
                 y: row[REGION_VIEWPORT_Y],
             },
-            scroll: choices::scroll(row[REGION_SCROLL]),
+            scroll: Scroll::try_from(row[REGION_SCROLL]).unwrap_or(Scroll::Up),
         },
     }
 }
 
 // Does each code of the row name a choice.
+#[tactic(auto, unfolding(format::specs::Rows::region_codes_named))]
 pub fn are_named(row: RegionRow) -> bool
     ensures { result ≡ region_codes_named row }
 {
-    row[REGION_SCROLL] < 2
+    Scroll::try_from(row[REGION_SCROLL]).is_ok()
 }

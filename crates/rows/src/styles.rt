@@ -2,6 +2,7 @@
 ghost use Rattle.std.specs.Prelude.{◌≡◌};
 ghost use Rattle.format.specs.Rows.{style_entry};
 
+use super::spans;
 use format::rows::*;
 use format::settings::Span;
 
@@ -9,8 +10,5 @@ use format::settings::Span;
 pub fn text(row: StyleRow) -> Span
     ensures { result ≡ style_entry row }
 {
-    Span {
-        from: row[STYLE_FROM] as usize,
-        to: row[STYLE_TO] as usize,
-    }
+    spans::span(row[STYLE_FROM], row[STYLE_TO])
 }

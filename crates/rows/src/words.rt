@@ -1,20 +1,8 @@
-// The coded choices as words, one function for each choice.
+// The choices that a number goes with, and the two that are no enum, as words. `format::codes` has the others.
 ghost use Rattle.std.specs.Prelude.{◌≡◌, ◌<◌};
-ghost use Rattle.format.specs.Rows.{direction_word, line_word, line_number_word, snap_word, line_align_word, position_word, position_number_word, position_align_word, align_word, region_word, scroll_word};
+ghost use Rattle.format.specs.Rows.{line_word, line_number_word, snap_word, position_word, position_number_word, region_word};
 
-use format::regions::Scroll;
-use format::rows::RegionIndex;
-use format::settings::{Align, Direction, Line, LineAlign, Position, PositionAlign};
-
-pub(crate) fn direction(d: Direction) -> u64
-    ensures { result ≡ direction_word d }
-{
-    match d {
-        Direction::Horizontal => 0,
-        Direction::Rl => 1,
-        Direction::Lr => 2,
-    }
-}
+use format::settings::{Line, Position};
 
 pub(crate) fn line(l: Line) -> u64
     ensures { result ≡ line_word l }
@@ -22,14 +10,10 @@ pub(crate) fn line(l: Line) -> u64
     match l {
         Line::Auto => 0,
         Line::At {
-            negative,
-            millionths: _,
-        } => {
-            if negative {
-                return 2;
-            }
-            1
-        }
+            negative: false,
+            ..
+        } => 1,
+        Line::At { negative: true, .. } => 2,
     }
 }
 
@@ -38,30 +22,14 @@ pub(crate) fn line_number(l: Line) -> u64
 {
     match l {
         Line::Auto => 0,
-        Line::At {
-            negative: _,
-            millionths,
-        } => millionths,
+        Line::At { millionths, .. } => millionths,
     }
 }
 
 pub(crate) fn snap(snaps: bool) -> u64
     ensures { result ≡ snap_word snaps }
 {
-    match snaps {
-        true => 0,
-        false => 1,
-    }
-}
-
-pub(crate) fn line_align(a: LineAlign) -> u64
-    ensures { result ≡ line_align_word a }
-{
-    match a {
-        LineAlign::Start => 0,
-        LineAlign::Center => 1,
-        LineAlign::End => 2,
-    }
+    if snaps { 0 } else { 1 }
 }
 
 pub(crate) fn position(p: Position) -> u64
@@ -82,49 +50,12 @@ pub(crate) fn position_number(p: Position) -> u64
     }
 }
 
-pub(crate) fn position_align(a: PositionAlign) -> u64
-    ensures { result ≡ position_align_word a }
-{
-    match a {
-        PositionAlign::Auto => 0,
-        PositionAlign::LineLeft => 1,
-        PositionAlign::Center => 2,
-        PositionAlign::LineRight => 3,
-    }
-}
-
-pub(crate) fn align(a: Align) -> u64
-    ensures { result ≡ align_word a }
-{
-    match a {
-        Align::Start => 0,
-        Align::Center => 1,
-        Align::End => 2,
-        Align::Left => 3,
-        Align::Right => 4,
-    }
-}
-
 // The greatest index has no word of its own, and no list of regions has that index.
-pub(crate) fn region(i: RegionIndex) -> u64
-    ensures { result ≡ region_word i }
+pub(crate) fn region(index: Option<u64>) -> u64
+    ensures { result ≡ region_word index }
 {
-    match i {
-        RegionIndex::None => 0,
-        RegionIndex::At(n) => {
-            if n < 0xFFFF_FFFF_FFFF_FFFF {
-                return n + 1;
-            }
-            n
-        }
-    }
-}
-
-pub(crate) fn scroll(s: Scroll) -> u64
-    ensures { result ≡ scroll_word s }
-{
-    match s {
-        Scroll::None => 0,
-        Scroll::Up => 1,
+    match index {
+        None => 0,
+        Some(i) => i.saturating_add(1),
     }
 }

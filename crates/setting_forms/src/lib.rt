@@ -1,143 +1,131 @@
 // A cue's settings as they are written: each after a space, those at their opening value left out. Any row is taken.
 #![tactic(auto)]
 
-ghost use Rattle.std.specs.Prelude.{cond, [], ◌∷◌};
+ghost use Rattle.std.specs.Prelude.{cond, [], ◌∷◌, option_copied};
 ghost use Rattle.format.specs.Bytes.{hyphen};
 ghost use Rattle.format.specs.Rows.{cue_entry};
 ghost use Rattle.format.specs.Written.{after_spaces, written_vertical, written_line_align, written_line_number, written_line, written_position_align, written_position, written_size, written_align};
 ghost use Rattle.output.specs.Puts.{Puts};
-ghost use Rattle.setting_forms.specs.Settings.{asked, named_region, settings_form};
+ghost use Rattle.setting_forms.specs.Settings.{named_region, settings_form};
 
 use format::rows::CueRow;
 use format::settings::{
     Align, Direction, Line, LineAlign, LinePlace, Position, PositionAlign, PositionPlace,
 };
-use output::{byte, bytes, decimal, percentage};
+use output::Output;
 
-fn vertical(direction: Direction, out: &mut [u8], at: usize) -> usize
-    ensures { Puts (after_spaces (written_vertical direction)) at out.old result out.new }
+fn vertical(direction: Direction, out: &mut Output)
+    ensures { Puts (after_spaces (written_vertical direction)) out.old out.new }
 {
     match direction {
-        Direction::Horizontal => at,
-        Direction::Rl => bytes(b" vertical:rl", out, at),
-        Direction::Lr => bytes(b" vertical:lr", out, at),
+        Direction::Horizontal => {}
+        Direction::Rl => out.bytes(b" vertical:rl"),
+        Direction::Lr => out.bytes(b" vertical:lr"),
     }
 }
 
-fn line_align(align: LineAlign, out: &mut [u8], at: usize) -> usize
-    ensures { Puts (written_line_align align) at out.old result out.new }
+fn line_align(align: LineAlign, out: &mut Output)
+    ensures { Puts (written_line_align align) out.old out.new }
 {
     match align {
-        LineAlign::Start => at,
-        LineAlign::Center => bytes(b",center", out, at),
-        LineAlign::End => bytes(b",end", out, at),
+        LineAlign::Start => {}
+        LineAlign::Center => out.bytes(b",center"),
+        LineAlign::End => out.bytes(b",end"),
     }
 }
 
-fn sign(negative: bool, out: &mut [u8], at: usize) -> usize
-    ensures { Puts (cond negative (hyphen ∷ []) []) at out.old result out.new }
+fn sign(negative: bool, out: &mut Output)
+    ensures { Puts (cond negative (hyphen ∷ []) []) out.old out.new }
 {
     if negative {
-        return byte(b'-', out, at);
+        out.byte(b'-');
     }
-    at
 }
 
 // A percentage where the line does not snap to lines.
-fn line_number(snap: bool, negative: bool, n: u64, out: &mut [u8], at: usize) -> usize
-    ensures { Puts (written_line_number snap negative n) at out.old result out.new }
+fn line_number(snap: bool, negative: bool, n: u64, out: &mut Output)
+    ensures { Puts (written_line_number snap negative n) out.old out.new }
 {
     if !snap {
-        return percentage(n, out, at);
+        return out.percentage(n);
     }
-    let number = sign(negative, out, at);
-    decimal(n, out, number)
+    sign(negative, out);
+    out.decimal(n);
 }
 
-fn line(place: LinePlace, out: &mut [u8], at: usize) -> usize
-    ensures { Puts (after_spaces (written_line place)) at out.old result out.new }
+fn line(place: LinePlace, out: &mut Output)
+    ensures { Puts (after_spaces (written_line place)) out.old out.new }
 {
-    let line = place.line;
-    let aligned = place.align;
-    match line {
-        Line::Auto => at,
-        Line::At {
-            negative,
-            millionths,
-        } => {
-            let number = bytes(b" line:", out, at);
-            let align = line_number(place.snap, negative, millionths, out, number);
-            line_align(aligned, out, align)
-        }
+    if let Line::At {
+        negative,
+        millionths,
+    } = place.line
+    {
+        out.bytes(b" line:");
+        line_number(place.snap, negative, millionths, out);
+        line_align(place.align, out);
     }
 }
 
-fn position_align(align: PositionAlign, out: &mut [u8], at: usize) -> usize
-    ensures { Puts (written_position_align align) at out.old result out.new }
+fn position_align(align: PositionAlign, out: &mut Output)
+    ensures { Puts (written_position_align align) out.old out.new }
 {
     match align {
-        PositionAlign::Auto => at,
-        PositionAlign::LineLeft => bytes(b",line-left", out, at),
-        PositionAlign::Center => bytes(b",center", out, at),
-        PositionAlign::LineRight => bytes(b",line-right", out, at),
+        PositionAlign::Auto => {}
+        PositionAlign::LineLeft => out.bytes(b",line-left"),
+        PositionAlign::Center => out.bytes(b",center"),
+        PositionAlign::LineRight => out.bytes(b",line-right"),
     }
 }
 
-fn position(place: PositionPlace, out: &mut [u8], at: usize) -> usize
-    ensures { Puts (after_spaces (written_position place)) at out.old result out.new }
+fn position(place: PositionPlace, out: &mut Output)
+    ensures { Puts (after_spaces (written_position place)) out.old out.new }
 {
-    let position = place.position;
-    let aligned = place.align;
-    match position {
-        Position::Auto => at,
-        Position::At(n) => {
-            let number = bytes(b" position:", out, at);
-            let align = percentage(n, out, number);
-            position_align(aligned, out, align)
-        }
+    if let Position::At(n) = place.position {
+        out.bytes(b" position:");
+        out.percentage(n);
+        position_align(place.align, out);
     }
 }
 
-fn size(millionths: u64, out: &mut [u8], at: usize) -> usize
-    ensures { Puts (after_spaces (written_size millionths)) at out.old result out.new }
+fn size(millionths: u64, out: &mut Output)
+    ensures { Puts (after_spaces (written_size millionths)) out.old out.new }
 {
-    if millionths == 100_000_000 {
-        return at;
+    if millionths != 100_000_000 {
+        out.bytes(b" size:");
+        out.percentage(millionths);
     }
-    let number = bytes(b" size:", out, at);
-    percentage(millionths, out, number)
 }
 
-fn align(a: Align, out: &mut [u8], at: usize) -> usize
-    ensures { Puts (after_spaces (written_align a)) at out.old result out.new }
+fn align(a: Align, out: &mut Output)
+    ensures { Puts (after_spaces (written_align a)) out.old out.new }
 {
     match a {
-        Align::Start => bytes(b" align:start", out, at),
-        Align::Center => at,
-        Align::End => bytes(b" align:end", out, at),
-        Align::Left => bytes(b" align:left", out, at),
-        Align::Right => bytes(b" align:right", out, at),
+        Align::Start => out.bytes(b" align:start"),
+        Align::Center => {}
+        Align::End => out.bytes(b" align:end"),
+        Align::Left => out.bytes(b" align:left"),
+        Align::Right => out.bytes(b" align:right"),
     }
 }
 
-fn region(asks: bool, name: &[u8], out: &mut [u8], at: usize) -> usize
-    ensures { Puts (after_spaces (named_region (asked asks name.now))) at out.old result out.new }
+fn region(name: Option<&[u8]>, out: &mut Output)
+    ensures { Puts (after_spaces (named_region (option_copied name.entry))) out.old out.new }
 {
-    if !asks {
-        return at;
+    if let Some(name) = name {
+        out.bytes(b" region:");
+        out.bytes(name);
     }
-    let to = bytes(b" region:", out, at);
-    bytes(name, out, to)
 }
 
 // All settings of a cue's row, with the name of the region it asks for, if it asks for one.
-pub fn settings(row: CueRow, asks: bool, name: &[u8], out: &mut [u8], at: usize) -> usize
-    ensures { Puts (after_spaces (settings_form (cue_entry row) (asked asks name.now))) at out.old result out.new }
+pub fn settings(row: CueRow, name: Option<&[u8]>, out: &mut Output)
+    ensures { Puts (after_spaces (settings_form (cue_entry row) (option_copied name.entry))) out.old out.new }
 {
-    let lines = vertical(rows::cues::vertical(row), out, at);
-    let across = line(rows::cues::line(row), out, lines);
-    let wide = position(rows::cues::position(row), out, across);
-    let aligned = size(rows::cues::size(row), out, wide);
-    let within = align(rows::cues::align(row), out, aligned);
-    region(asks, name, out, within)
+    vertical(rows::cues::vertical(row), out);
+    line(rows::cues::line(row), out);
+    position(rows::cues::position(row), out);
+    size(rows::cues::size(row), out);
+    align(rows::cues::align(row), out);
+    region(name, out);
 }

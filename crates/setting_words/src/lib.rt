@@ -1,147 +1,89 @@
-// The words of a cue's settings: which setting a name means, and which choice a value. Any bytes are taken.
+// The words of a cue's settings: which choice a value means. Any bytes are taken.
 #![tactic(auto)]
 
-ghost use Rattle.std.specs.Prelude.{◌≡◌};
+ghost use Rattle.std.specs.Prelude.{◌≡◌, MatchOption, true, false};
+ghost use Rattle.format.specs.Bytes.{comma};
+ghost use Rattle.format.specs.Texts.{has, after_first};
 ghost use Rattle.format.specs.CueSettings.{direction, alignment, line_align, position_align};
-ghost use Rattle.setting_words.specs.Words.{cue_name_is, align_word_is, align_name_is, line_aligned_is, position_aligned_is};
+ghost use Rattle.setting_words.specs.Words.{line_word, position_word};
 
 use format::settings::{Align, Direction, LineAlign, PositionAlign};
-use values::bytes::{ByteKind, same_bytes};
-use values::names::index_of;
+use values::bytes::{ByteKind, past};
 
-// A setting by its name.
-#[derive(Clone, Copy)]
-pub enum CueName {
-    Region,
-    Vertical,
-    Line,
-    Position,
-    Size,
-    Align,
-    Other,
-}
-
-pub fn cue_name(name: &[u8]) -> CueName
-    ensures { result ≡ cue_name_is name.now }
-{
-    if same_bytes(name, b"region") {
-        return CueName::Region;
-    }
-    if same_bytes(name, b"vertical") {
-        return CueName::Vertical;
-    }
-    if same_bytes(name, b"line") {
-        return CueName::Line;
-    }
-    if same_bytes(name, b"position") {
-        return CueName::Position;
-    }
-    if same_bytes(name, b"size") {
-        return CueName::Size;
-    }
-    if same_bytes(name, b"align") {
-        return CueName::Align;
-    }
-    CueName::Other
-}
-
+#[tactic(auto, using(laws::proofs::NotNames::not_named, crate::proofs::WordLaws::direction_none), unfolding(format::specs::CueSettings::direction, format::specs::Texts::same))]
 pub fn direction_of(value: &[u8], current: Direction) -> Direction
     ensures { result ≡ direction value.now current }
 {
-    if same_bytes(value, b"rl") {
-        return Direction::Rl;
-    }
-    if same_bytes(value, b"lr") {
-        return Direction::Lr;
-    }
-    current
-}
-
-pub fn align_of(value: &[u8], current: Align) -> Align
-    ensures { result ≡ alignment value.now current }
-{
-    match index_of(b"start\ncenter\nend\nleft\nright", value) {
-        0 => Align::Start,
-        1 => Align::Center,
-        2 => Align::End,
-        3 => Align::Left,
-        4 => Align::Right,
+    match value {
+        b"rl" => Direction::Rl,
+        b"lr" => Direction::Lr,
         _ => current,
     }
 }
 
-// The alignment after a value's comma, by its name.
-#[derive(Clone, Copy)]
-pub enum AlignName {
-    // There is no comma.
-    Absent,
-    Start,
-    Center,
-    End,
-    LineLeft,
-    LineRight,
-    Other,
-}
-
-fn align_word(name: &[u8]) -> AlignName
-    ensures { result ≡ align_word_is name.now }
+#[tactic(auto, using(laws::proofs::NotNames::not_named, crate::proofs::WordLaws::alignment_none), unfolding(format::specs::CueSettings::alignment, format::specs::Texts::same))]
+pub fn align_of(value: &[u8], current: Align) -> Align
+    ensures { result ≡ alignment value.now current }
 {
-    match index_of(b"start\ncenter\nend\nline-left\nline-right", name) {
-        0 => AlignName::Start,
-        1 => AlignName::Center,
-        2 => AlignName::End,
-        3 => AlignName::LineLeft,
-        4 => AlignName::LineRight,
-        _ => AlignName::Other,
+    match value {
+        b"start" => Align::Start,
+        b"center" => Align::Center,
+        b"end" => Align::End,
+        b"left" => Align::Left,
+        b"right" => Align::Right,
+        _ => current,
     }
 }
 
-fn align_name(value: &[u8]) -> AlignName
-    ensures { result ≡ align_name_is value.now }
+// What stands after a value's first comma, if it has one.
+fn after_comma(value: &[u8]) -> Option<&[u8]>
+    ensures { MatchOption result (has comma value.now ≡ false) (λ name. (has comma value.now ≡ true) × (name.now ≡ after_first comma value.now)) }
 {
-    let comma = values::bytes::past(value, 0, ByteKind::Until(b','));
+    let comma = past(value, 0, ByteKind::Until(b','));
     if comma == value.len() {
-        return AlignName::Absent;
+        return None;
     }
-    align_word(&value[comma + 1..])
+    Some(&value[comma + 1..])
 }
 
-#[derive(Clone, Copy)]
-pub enum LineAligned {
-    Bad,
-    Good(LineAlign),
-}
-
-pub fn line_align(value: &[u8], current: LineAlign) -> LineAligned
-    ensures { result ≡ line_aligned_is (line_align value.now current) }
+#[tactic(auto, using(laws::proofs::NotNames::not_named, crate::proofs::WordLaws::line_none), unfolding(format::specs::Texts::same))]
+fn line_word(name: &[u8]) -> Option<LineAlign>
+    ensures { result ≡ line_word name.now }
 {
-    match align_name(value) {
-        AlignName::Absent => LineAligned::Good(current),
-        AlignName::Start => LineAligned::Good(LineAlign::Start),
-        AlignName::Center => LineAligned::Good(LineAlign::Center),
-        AlignName::End => LineAligned::Good(LineAlign::End),
-        AlignName::LineLeft => LineAligned::Bad,
-        AlignName::LineRight => LineAligned::Bad,
-        AlignName::Other => LineAligned::Bad,
+    match name {
+        b"start" => Some(LineAlign::Start),
+        b"center" => Some(LineAlign::Center),
+        b"end" => Some(LineAlign::End),
+        _ => None,
     }
 }
 
-#[derive(Clone, Copy)]
-pub enum PositionAligned {
-    Bad,
-    Good(PositionAlign),
+pub fn line_align(value: &[u8], current: LineAlign) -> Option<LineAlign>
+    ensures { result ≡ line_align value.now current }
+{
+    match after_comma(value) {
+        Some(name) => line_word(name),
+        None => Some(current),
+    }
 }
 
-pub fn position_align(value: &[u8], current: PositionAlign) -> PositionAligned
-    ensures { result ≡ position_aligned_is (position_align value.now current) }
+#[tactic(auto, using(laws::proofs::NotNames::not_named, crate::proofs::WordLaws::position_none), unfolding(format::specs::Texts::same))]
+fn position_word(name: &[u8]) -> Option<PositionAlign>
+    ensures { result ≡ position_word name.now }
 {
-    match align_name(value) {
-        AlignName::Absent => PositionAligned::Good(current),
-        AlignName::Start => PositionAligned::Bad,
-        AlignName::Center => PositionAligned::Good(PositionAlign::Center),
-        AlignName::End => PositionAligned::Bad,
-        AlignName::LineLeft => PositionAligned::Good(PositionAlign::LineLeft),
-        AlignName::LineRight => PositionAligned::Good(PositionAlign::LineRight),
-        AlignName::Other => PositionAligned::Bad,
+    match name {
+        b"line-left" => Some(PositionAlign::LineLeft),
+        b"center" => Some(PositionAlign::Center),
+        b"line-right" => Some(PositionAlign::LineRight),
+        _ => None,
+    }
+}
+
+pub fn position_align(value: &[u8], current: PositionAlign) -> Option<PositionAlign>
+    ensures { result ≡ position_align value.now current }
+{
+    match after_comma(value) {
+        Some(name) => position_word(name),
+        None => Some(current),
     }
 }

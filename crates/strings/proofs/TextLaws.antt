@@ -31,6 +31,18 @@ escape_is_lem :
 escape_is_lem held true name x y e h k = let is = ap length (same-is held name (sym e)) in omega arith
 escape_is_lem held false name x y e h k = k
 
+pub escaped_none :
+    (held : List ℕ)
+    → same held (ascii "&amp") ≡ false
+    → same held (ascii "&lt") ≡ false
+    → same held (ascii "&gt") ≡ false
+    → same held (ascii "&lrm") ≡ false
+    → same held (ascii "&rlm") ≡ false
+    → same held (ascii "&nbsp") ≡ false
+    → escaped held ≡ held ++ semicolon ∷ []
+unfolding escaped
+escaped_none held amp lt gt lrm rlm nbsp = rw (amp, lt, gt, lrm, rlm, nbsp)
+
 pub escaped-length : (held : List ℕ) → length (escaped held) ≤ length held + 1
 unfolding escaped
 escaped-length held =
@@ -129,6 +141,10 @@ closed_plain x s end n =
     (λ f. rw (drop_of_length-le s {i = end} (ltb-false end (length s) f)) (sym (append-nil x)))
 
 -- the piece of a text at a place
+pub bytes_at-short : (s : List ℕ) (from to : ℕ) → length (bytes_at s from to) ≤ length s
+unfolding bytes_at
+bytes_at-short s from to = omega (arith, length-take (to - from) (drop from s), length-drop from s)
+
 pub part_length : (s : List ℕ) (from to : ℕ) → from ≤ to → to ≤ length s → length (bytes_at s from to) ≡ to - from
 unfolding bytes_at
 part_length s from to h l = omega (arith, length-take (to - from) (drop from s), length-drop from s)

@@ -2,12 +2,15 @@
 use Prim.Native.Nat.{ℕ, ◌+◌, ◌≤◌, ◌<◌}
 use mathlib.Core.Path.{◌≡◌, sym, ap}
 use mathlib.Core.Bool.{Bool, true, false, cond, false≢true}
-use mathlib.Core.List.{List}
+use mathlib.Core.List.{List, [], ◌∷◌}
 use native.Mathlib.Omega.{arith}
-use lib.Dec.{ltb}
-use lib.ListN.{length, get_or, drop, drop_of_length-le}
-use borrow.Author.Tests.{lt-ltb, ltb-true}
-use Rattle.format.specs.Texts.{bytes_at}
+use lib.Dec.{eqb, ltb}
+use lib.ListN.{length, get_or, get_or-eq_default, drop, drop_of_length-le}
+use lib.Seq.{drop-cons}
+use borrow.Author.Tests.{lt-ltb, ltb-true, ltb-false}
+use Rattle.format.specs.Bytes.{semicolon}
+use Rattle.format.specs.Texts.{starts_with, bytes_at}
+use Rattle.laws.proofs.Tests.{by-test, and-true}
 use Rattle.format.specs.CueText.{escaped, collapsed}
 use Rattle.tokenizer.specs.Decoding.{decoded_from, decoded}
 use Rattle.strings.specs.Stores.{Stores, separates, one}
@@ -25,6 +28,14 @@ use Rattle.strings.proofs.TextLaws.{
   collapse_end,
   word-length,
 }
+
+-- a byte of a text by its place, or as what the text goes on with
+pub semicolon_at : (s : List ℕ) (at : ℕ) → starts_with (semicolon ∷ []) (drop at s) ≡ eqb (get_or s at 0) semicolon
+unfolding starts_with
+semicolon_at s at =
+    by-test (ltb at (length s))
+    (λ y. rw (drop-cons s at 0 (ltb-true at (length s) y), and-true))
+    (λ n. let l = ltb-false at (length s) n in rw (drop_of_length-le s l, get_or-eq_default s 0 {n = at} l))
 
 -- decoding: what was put is no longer than the pieces that were passed
 pub record Decoding (s : List ℕ) (at : ℕ) (room₀ room : List ℕ) (i n : ℕ) : Type 0 where

@@ -5,7 +5,6 @@ use Rattle.format.specs.Texts.{run, past_run}
 use Rattle.format.specs.Numbers.{number}
 use Rattle.format.specs.Times.{got, Time, timestamp, milliseconds, over_hours}
 use Rattle.format.specs.TimingLines.{arrow_and_end, timings}
-use Rattle.timing.specs.declared.usual.Usual.{Usual}
 
 -- a text that does not begin with a digit
 abbrev pub NoDigit : List ℕ → Type 0
@@ -52,7 +51,3 @@ pub record UsualRead (s : List ℕ) (at start end : ℕ) : Type 0 where
   pub second-within : over_hours second ≡ false
   pub start_is : milliseconds first ≡ start
   pub end_is : milliseconds second ≡ end
-
-abbrev pub UsualIs : List ℕ → ℕ → Usual → Type 0
-UsualIs s at Usual.Other = Unit
-UsualIs s at (Usual.Times start end) = UsualRead s at start end

@@ -17,8 +17,8 @@ pub fn line_of(text: &[u8], from: usize, to: usize) -> TimingLine
     ensures is { result ≡ timed_line_is (part_of text.now from to) }
     ensures answer { timing_line_answer result ≡ timing_line_told (part_of text.now from to) }
 {
-    let end = values::least(to, text.len());
-    let start = values::least(from, end);
+    let end = to.min(text.len());
+    let start = from.min(end);
     timing_line::read_timing_line(&text[..end], start)
 }
 
@@ -26,7 +26,7 @@ pub fn line_of(text: &[u8], from: usize, to: usize) -> TimingLine
 pub fn kind_of(text: &[u8], from: usize, to: usize) -> LineKind
     ensures { result ≡ line_kind (timed_line_is (part_of text.now from to)) }
 {
-    let end = values::least(to, text.len());
-    let start = values::least(from, end);
+    let end = to.min(text.len());
+    let start = from.min(end);
     timing_line::read_kind(&text[..end], start)
 }

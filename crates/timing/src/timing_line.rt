@@ -7,7 +7,7 @@ ghost use Rattle.values.specs.Tokens.{token_from};
 ghost use Rattle.timing.specs.TimingLines.{arrow_is, both_is, times_is, with_settings_is, timed_line_is, line_kind};
 ghost use Rattle.timing.specs.declared.timing_line.ArrowEnd.TheVariants as ArrowEnd;
 
-use crate::usual::{Usual, usual_times};
+use crate::usual::usual_times;
 use format::times::{Stamp, TimeFault, Timing, TimingLine};
 use values::bytes::{ByteKind, is_at};
 
@@ -107,12 +107,12 @@ fn read_times(s: &[u8], from: usize) -> Times
     ensures { result ≡ times_is (length s.now) (timings (drop from s.now)) }
 {
     match usual_times(s, from) {
-        Usual::Other => read_any_times(s, from),
-        Usual::Times { start, end } => Times::Good {
-            start,
-            end,
+        Some(times) => Times::Good {
+            start: times.start,
+            end: times.end,
             next: from + 29,
         },
+        None => read_any_times(s, from),
     }
 }
 

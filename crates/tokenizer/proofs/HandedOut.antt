@@ -8,6 +8,7 @@ use lib.Dec.{eqb, ltb}
 use lib.ListN.{length, get_or, drop, drop_of_length-le}
 use lib.Seq.{drop-drop}
 use borrow.Author.Tests.{lt-ltb, le-ltb, ltb-true, ltb-false, eqb-true, eqb-false}
+use Rattle.std.specs.Prelude.{Option, None, Some}
 use Rattle.format.specs.Bytes.{solidus, less, digit}
 use Rattle.format.specs.Texts.{is_empty}
 use Rattle.format.specs.CueText.{visit_end, cue_tokens_from, cue_tokens}
@@ -94,13 +95,13 @@ stays (suc n) s at h = rw (← (step_none s at h)) (stays n s at h)
 
 -- a step more, by what it found: the token is the first of those from the place on, and the others are those from the next place on
 then_step :
-    (n : ℕ) (s : List ℕ) (at : ℕ) (r : Stepped)
+    (n : ℕ) (s : List ℕ) (at : ℕ) (r : Option Stepped)
     → StepAt s at r
     → ((next : ℕ) → handed_out n s next ++ cue_tokens (drop (stands_at n s next) s) ≡ cue_tokens (drop next s))
     → handed s r (handed_out n s (moved_to r at)) ++ cue_tokens (drop (stands_at n s (moved_to r at)) s) ≡ cue_tokens (drop at s)
 unfolding handed
-then_step n s at Stepped.None end later = rw (stays n s at end)
-then_step n s at (Stepped.Next t next) found later = ap (λ ts. token_is s t ∷ ts) (later next) ∙ sym found.first
+then_step n s at None end later = rw (stays n s at end)
+then_step n s at (Some step) found later = ap (λ ts. token_is s step.token ∷ ts) (later step.next) ∙ sym found.first
 
 -- What n steps hand out, and then the tokens from where the reader stands on, are the tokens from the place on: by induction on the steps.
 pub handed_then : (n : ℕ) (s : List ℕ) (at : ℕ) → handed_out n s at ++ cue_tokens (drop (stands_at n s at) s) ≡ cue_tokens (drop at s)
@@ -109,9 +110,9 @@ handed_then zero s at = refl
 handed_then (suc n) s at = then_step n s at (step_is s at) (step_is_at s at) (handed_then n s)
 
 -- a step more leaves no more bytes than the steps that are left: a token moves the reader on, and without one it is at the end
-past_step : (n : ℕ) (s : List ℕ) (at : ℕ) (r : Stepped) → StepAt s at r → length s ≤ at + suc n → length s ≤ moved_to r at + n
-past_step n s at Stepped.None end h = omega arith
-past_step n s at (Stepped.Next t next) found h = omega (arith, found.moves)
+past_step : (n : ℕ) (s : List ℕ) (at : ℕ) (r : Option Stepped) → StepAt s at r → length s ≤ at + suc n → length s ≤ moved_to r at + n
+past_step n s at None end h = omega arith
+past_step n s at (Some step) found h = omega (arith, found.moves)
 
 -- After as many steps as there are bytes left the reader stands at the text's end: each step moves on by a byte at least.
 pub stands_at-end : (n : ℕ) (s : List ℕ) (at : ℕ) → length s ≤ at + n → length s ≤ stands_at n s at

@@ -2,5 +2,4 @@
 pub mod Strings
 pub mod Tags
 pub mod Spans
-pub mod Promises
 pub mod HandedOut

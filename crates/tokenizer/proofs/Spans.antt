@@ -8,14 +8,14 @@ use lib.Dec.{eqb}
 use lib.ListN.{length, get_or, take, drop}
 use lib.Seq.{take-take, length-take-le, get_or-take}
 use borrow.Author.Tests.{eq-eqb, ne_eqb, lt-ltb, le-ltb}
+use Rattle.std.specs.Prelude.{None}
 use Rattle.format.specs.Bytes.{full_stop, solidus, less, digit}
 use Rattle.format.specs.Texts.{run, past_run, bytes_at}
 use Rattle.format.specs.CueText.{blank, cue_tokens}
 use Rattle.laws.proofs.Tests.{by-test}
 use Rattle.laws.proofs.Runs.{RunAt, drop-first, run_at, run-first, run-after, run-moves, drop-take}
-use Rattle.tokenizer.specs.Tags.{in_name, token_is, start_of, tag_of, PartsIn, StartAt, TagAt, Marked, TokenAt, name_to, classes_to, start_told, tag_is, string_to, tag_to, after_tag, step_is}
+use Rattle.tokenizer.specs.Tags.{in_name, token_is, start_of, tag_of, PartsIn, StartAt, TagAt, Marked, TokenAt, start_told, tag_is, string_to, tag_to, after_tag, stepped, step_is}
 use Rattle.tokenizer.specs.declared.Token.{Token}
-use Rattle.tokenizer.specs.declared.Stepped.TheVariants as Stepped
 use Rattle.tokenizer.proofs.Strings.{not_less, string_token_lem}
 use Rattle.tokenizer.proofs.Tags.{not_greater, name-blank, name_other, tag_token}
 
@@ -219,14 +219,6 @@ module _ (s : List ℕ) (at : ℕ) (h : at < length s) where
         }
 
 -- what the code finds, by its tests
-pub start-found :
-    (s : List ℕ) (from to n w : ℕ)
-    → n ≡ name_to s from to
-    → w ≡ classes_to s n to
-    → Token.Start (record { from = from; to = n }) (record { from = n; to = w }) (record { from = w; to = to }) ≡ start_told s from to
-unfolding start_told
-start-found s from to n w en ew = rw (ew, en)
-
 module _ (s : List ℕ) (from to : ℕ) where
   pub tag_none : to ≤ from → start_told s from to ≡ tag_is s from to
   unfolding tag_is
@@ -247,13 +239,13 @@ module _ (s : List ℕ) (from to : ℕ) where
       tag_start d = rw (lt-ltb from to h, ne_eqb (get_or s from 0) solidus n, d)
 
 module _ (s : List ℕ) (at : ℕ) where
-  pub step_none : length s ≤ at → Stepped.None ≡ step_is s at
+  pub step_none : length s ≤ at → None ≡ step_is s at
   unfolding step_is
   step_none h = rw (le-ltb at (length s) h)
 
   module _ (h : at < length s) where
     pub step_string :
-        (get_or s at 0 ≡ less → ⊥) → (to : ℕ) → to ≡ string_to s at → Stepped.Next (Token.String (record { from = at; to = to })) to ≡ step_is s at
+        (get_or s at 0 ≡ less → ⊥) → (to : ℕ) → to ≡ string_to s at → stepped (Token.String (record { from = at; to = to })) to ≡ step_is s at
     unfolding step_is
     step_string n to e = rw (lt-ltb at (length s) h, ne_eqb (get_or s at 0) less n, e)
 
@@ -263,6 +255,6 @@ module _ (s : List ℕ) (at : ℕ) where
         → to ≡ tag_to s (at + 1)
         → (t : Token)
         → t ≡ tag_is s (at + 1) to
-        → Stepped.Next t (after_tag s to) ≡ step_is s at
+        → stepped t (after_tag s to) ≡ step_is s at
     unfolding step_is
     step_tag y to e t k = rw (lt-ltb at (length s) h, eq-eqb (get_or s at 0) less y, k, e)

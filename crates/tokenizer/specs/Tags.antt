@@ -1,5 +1,5 @@
 -- A token as parts of the text: what each part stands for, and that it is the token at a place.
-use Rattle.std.specs.Prelude.{ℕ, ◌+◌, ◌≤◌, ◌<◌, ◌≡◌, Bool, true, false, cond, not, ◌&&◌, ◌||◌, List, [], ◌∷◌, ◌++◌, eqb, ltb, length, get_or, take, drop}
+use Rattle.std.specs.Prelude.{ℕ, ◌+◌, ◌≤◌, ◌<◌, ◌≡◌, Bool, true, false, cond, not, ◌&&◌, ◌||◌, List, [], ◌∷◌, ◌++◌, eqb, ltb, length, get_or, take, drop, Option, None, Some}
 use Rattle.format.specs.Bytes.{full_stop, solidus, space, less, greater, digit, white}
 use Rattle.format.specs.Texts.{run, past_run, bytes_at}
 use Rattle.format.specs.Lines.{split_list_at}
@@ -91,9 +91,9 @@ pub record TokenAt (s : List ℕ) (at : ℕ) (t : Token) (next : ℕ) : Type 0 w
   pub parts : PartsIn s at next t
   pub marked : Marked s at next t
 
-abbrev pub StepAt : List ℕ → ℕ → Stepped → Type 0
-StepAt s at Stepped.None = length s ≤ at
-StepAt s at (Stepped.Next t next) = TokenAt s at t next
+abbrev pub StepAt : List ℕ → ℕ → Option Stepped → Type 0
+StepAt s at None = length s ≤ at
+StepAt s at (Some step) = TokenAt s at step.token step.next
 
 -- the same by the places that the code finds: where a name ends that begins at a place, and where the classes after it do
 abbrev pub name_to : List ℕ → ℕ → ℕ → ℕ
@@ -123,9 +123,12 @@ tag_to s from = from + length (run (λ b. not (eqb b greater)) (drop from s))
 abbrev pub after_tag : List ℕ → ℕ → ℕ
 after_tag s to = cond (ltb to (length s)) (to + 1) to
 
-unfoldable pub step_is : List ℕ → ℕ → Stepped
+abbrev pub stepped : Token → ℕ → Option Stepped
+stepped token next = Some (record { token = token; next = next })
+
+unfoldable pub step_is : List ℕ → ℕ → Option Stepped
 step_is s at =
     cond (ltb at (length s))
-    (cond (eqb (get_or s at 0) less) (Stepped.Next (tag_is s (at + 1) (tag_to s (at + 1))) (after_tag s (tag_to s (at + 1))))
-    (Stepped.Next (Token.String (record { from = at; to = string_to s at })) (string_to s at)))
-    Stepped.None
+    (cond (eqb (get_or s at 0) less) (stepped (tag_is s (at + 1) (tag_to s (at + 1))) (after_tag s (tag_to s (at + 1))))
+    (stepped (Token.String (record { from = at; to = string_to s at })) (string_to s at)))
+    None

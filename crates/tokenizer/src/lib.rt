@@ -7,7 +7,6 @@ ghost use Rattle.std.specs.Prelude.{◌≡◌, ◌+◌, ◌≤◌, length, drop}
 ghost use Rattle.format.specs.Texts.{run};
 ghost use Rattle.format.specs.CueText.{blank};
 ghost use Rattle.tokenizer.specs.Tags.{in_name, start_told, tag_is, step_is};
-ghost use Rattle.tokenizer.specs.Reader.{moved_to};
 
 use format::settings::Span;
 pub use reader::{Tokenizer, token_at};
@@ -27,55 +26,39 @@ pub enum Token {
     Timestamp(Span),
 }
 
+// A token, and where the next one begins.
 #[derive(Clone, Copy)]
-pub enum Stepped {
-    // The text's end is reached.
-    None,
-    // A token, and where the next one begins.
-    Next { token: Token, next: usize },
+pub struct Stepped {
+    pub token: Token,
+    pub next: usize,
 }
 
+#[tactic(auto, unfolding(format::specs::CueText::blank))]
 fn is_blank(b: u8) -> bool
     ensures { result ≡ blank b }
 {
-    if b == b'\t' {
-        return true;
-    }
-    if b == b'\n' {
-        return true;
-    }
-    if b == 0x0C {
-        return true;
-    }
-    b == b' '
+    matches!(b, b'\t' | b'\n' | 0x0C | b' ')
 }
 
 // Does a tag's name go on with this byte; where no full stop ends it, its name and its classes.
+#[tactic(auto, unfolding(crate::specs::Tags::in_name))]
 fn goes_on(stops: bool, b: u8) -> bool
     ensures { result ≡ in_name stops b }
 {
-    if is_blank(b) {
-        return false;
-    }
-    if stops {
-        return b != b'.';
-    }
-    true
+    !is_blank(b) && !(stops && b == b'.')
 }
 
-// Where the name, or the name and the classes, from a place on end.
-fn name_end(s: &[u8], at: usize, stops: bool) -> usize
-    requires { at ≤ length s.now }
-    ensures { result ≡ at + length (run (in_name stops) (drop at s.now)) }
+// How long the name, or the name and the classes, at the text's start is.
+fn name_length(s: &[u8], stops: bool) -> usize
+    ensures is { result ≡ length (run (in_name stops) s.now) }
+    ensures within { result ≤ length s.now }
 {
-    let mut i = at;
-    while i < s.len() {
-        if !goes_on(stops, s[i]) {
+    for (i, &b) in s.iter().enumerate() {
+        if !goes_on(stops, b) {
             return i;
         }
-        i += 1;
     }
-    i
+    s.len()
 }
 
 // The start tag of what stands from one place up to another.
@@ -83,9 +66,8 @@ fn start_tag(text: &[u8], from: usize, to: usize) -> Token
     requires { (from ≤ to) × (to ≤ length text.now) }
     ensures { result ≡ start_told text.now from to }
 {
-    let body = &text[..to];
-    let classes = name_end(body, from, true);
-    let annotation = name_end(body, classes, false);
+    let classes = from + name_length(&text[from..to], true);
+    let annotation = classes + name_length(&text[classes..to], false);
     Token::Start {
         name: Span { from, to: classes },
         classes: Span {
@@ -117,38 +99,21 @@ fn tag(text: &[u8], from: usize, to: usize) -> Token
     start_tag(text, from, to)
 }
 
-// The token that begins at a place. A tag ends at the first `>`, text at the next `<`.
-fn step(text: &[u8], at: usize) -> Stepped
+// The token that begins at a place; none at the text's end. A tag ends at the first `>`, text at the next `<`.
+fn step(text: &[u8], at: usize) -> Option<Stepped>
     ensures { result ≡ step_is text.now at }
 {
     if text.len() <= at {
-        return Stepped::None;
+        return None;
     }
     if text[at] != b'<' {
         let to = past(text, at, ByteKind::Until(b'<'));
-        return Stepped::Next {
-            token: Token::String(Span { from: at, to }),
-            next: to,
-        };
+        let token = Token::String(Span { from: at, to });
+        return Some(Stepped { token, next: to });
     }
     let from = at + 1;
     let to = past(text, from, ByteKind::Until(b'>'));
     let token = tag(text, from, to);
-    if to < text.len() {
-        return Stepped::Next {
-            token,
-            next: to + 1,
-        };
-    }
-    Stepped::Next { token, next: to }
-}
-
-// Where the next token begins after a step; where there is none, the same place.
-fn place_after(stepped: Stepped, at: usize) -> usize
-    ensures { result ≡ moved_to stepped at }
-{
-    match stepped {
-        Stepped::None => at,
-        Stepped::Next { token: _, next } => next,
-    }
+    let next = if to < text.len() { to + 1 } else { to };
+    Some(Stepped { token, next })
 }

@@ -5,7 +5,7 @@ ghost use Rattle.std.specs.Prelude.{◌≡◌, leb, length};
 ghost use Rattle.tokenizer.specs.Tags.{step_is, StepAt};
 ghost use Rattle.tokenizer.specs.Reader.{moved_to};
 
-use super::{Stepped, place_after, step};
+use super::{Stepped, step};
 
 #[derive(Drop)]
 pub struct Tokenizer<'a> {
@@ -28,21 +28,23 @@ impl<'a> Tokenizer<'a> {
         self.text.len() <= self.at
     }
 
-    // The token that begins at the place. The reader moves on past it.
-    pub fn next(&mut self) -> Stepped
+    // The token that begins at the place. The reader moves on past it. No `Iterator`, for docs/PROMISES.md names this method's three promises.
+    pub fn next(&mut self) -> Option<Stepped>
         ensures is { result ≡ step_is self.old.text.now self.old.at }
         ensures at { StepAt self.old.text.now self.old.at result }
         ensures moved { self.new ≡ record { text = self.old.text; at = moved_to (step_is self.old.text.now self.old.at) self.old.at } }
     {
-        let at = self.at;
-        let stepped = step(self.text, at);
-        self.at = place_after(stepped, at);
+        let stepped = step(self.text, self.at);
+        self.at = match stepped {
+            Some(found) => found.next,
+            None => self.at,
+        };
         stepped
     }
 }
 
 // The token that begins at a place of a text, for a caller that holds no reader.
-pub fn token_at(text: &[u8], at: usize) -> Stepped
+pub fn token_at(text: &[u8], at: usize) -> Option<Stepped>
     ensures is { result ≡ step_is text.now at }
     ensures at { StepAt text.now at result }
 {

@@ -2,7 +2,8 @@
 use Prim.Native.Nat.{ℕ}
 use mathlib.Core.Path.{◌≡◌, refl}
 use mathlib.Core.List.{[], ◌∷◌}
-use mathlib.Core.Option.{Option, none, some}
+use Rattle.std.specs.Prelude.{Option, None, Some}
+use Rattle.std.specs.Prelude.{Result as Answered}
 use lib.Dec.{ltb}
 use Rattle.format.specs.Limits.{max_line}
 use Rattle.format.specs.Answers.{limited}
@@ -15,7 +16,7 @@ use Rattle.values.specs.Numbers.{line_number_is, line_number_answer, number_answ
 use Rattle.values.specs.Times.{stamp_is}
 use Rattle.format.specs.declared.times.Stamp.{Stamp}
 use Rattle.values.specs.declared.numbers.LineNumber.{LineNumber}
-use Rattle.values.specs.declared.numbers.LineCount.{LineCount}
+use Rattle.values.specs.declared.numbers.NumberError.{NumberError}
 
 pub stamp_told :
     (n : ℕ) (t : Result Time) (r : Stamp) → r ≡ stamp_is n t → (r ≡ stamp_is n t) × (stamp_answer r ≡ told over_hours (λ t. milliseconds t ∷ []) n t)
@@ -24,12 +25,12 @@ stamp_told n (failed f rest) r e = (e, rw e refl)
 stamp_told n (got t rest) r e = (e, rw e (by-test (over_hours t) (λ y. rw y refl) (λ z. rw z refl)))
 
 pub line_told :
-    (n : Option Format.LineNumber) (r : LineNumber) → r ≡ line_number_is n → (r ≡ line_number_is n) × (line_number_answer r ≡ number_answer n)
+    (n : Option Format.LineNumber) (r : Answered LineNumber NumberError) → r ≡ line_number_is n → (r ≡ line_number_is n) × (line_number_answer r ≡ number_answer n)
 unfolding limited
-line_told none r e = (e, rw e refl)
-line_told (some n) r e = (e, rw e (by-test (over_line n) (λ y. rw y refl) (λ z. rw z refl)))
+line_told None r e = (e, rw e refl)
+line_told (Some n) r e = (e, rw e (by-test (over_line n) (λ y. rw y refl) (λ z. rw z refl)))
 
-pub count-told : (n : Option ℕ) (r : LineCount) → r ≡ line_count_is n → (r ≡ line_count_is n) × (line_count_answer r ≡ count_answer n)
+pub count-told : (n : Option ℕ) (r : Answered ℕ NumberError) → r ≡ line_count_is n → (r ≡ line_count_is n) × (line_count_answer r ≡ count_answer n)
 unfolding limited
-count-told none r e = (e, rw e refl)
-count-told (some n) r e = (e, rw e (by-test (ltb max_line n) (λ y. rw y refl) (λ z. rw z refl)))
+count-told None r e = (e, rw e refl)
+count-told (Some n) r e = (e, rw e (by-test (ltb max_line n) (λ y. rw y refl) (λ z. rw z refl)))

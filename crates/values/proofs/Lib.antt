@@ -3,5 +3,5 @@ pub mod NumberLaws
 pub mod CutLaws
 pub mod StepLaws
 mod TimeLaws
-pub mod NameLaws
 pub mod AnswerLaws
+pub mod WordLaws

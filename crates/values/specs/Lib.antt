@@ -3,4 +3,3 @@ pub mod Runs
 pub mod Numbers
 pub mod Times
 pub mod Tokens
-pub mod Names

@@ -1,11 +1,10 @@
 -- The next token of a text, as the code finds it.
+use Rattle.std.specs.Prelude.{Option, None, Some}
 use Rattle.std.specs.Prelude.{ℕ, ◌+◌, ◌-◌, ◌≤◌, ◌<◌, min, ◌≡◌, true, false, cond, ◌||◌, List, [], ◌∷◌, eqb, length, take, drop}
 use Rattle.format.specs.Texts.{Part, is_empty}
 use Rattle.format.specs.Tokens.{tokens, name_of, value_of}
 use Rattle.format.specs.CueSettings.{no_span}
 use Rattle.format.specs.declared.settings.Span.{Span}
-use Rattle.values.specs.declared.tokens.Token.{Token}
-use Rattle.values.specs.declared.tokens.NameEnd.{NameEnd}
 
 -- a token from one place up to another, and those after it
 pub record TokenHere (s : List ℕ) (i from to : ℕ) : Type 0 where
@@ -14,9 +13,9 @@ pub record TokenHere (s : List ℕ) (i from to : ℕ) : Type 0 where
   pub some : from ≤ to
   pub inside : to ≤ length s
 
-abbrev pub TokenAt : List ℕ → ℕ → Token → Type 0
-TokenAt s i Token.End = tokens i (drop i s) ≡ []
-TokenAt s i (Token.At from to) = TokenHere s i from to
+abbrev pub TokenAt : List ℕ → ℕ → Option Span → Type 0
+TokenAt s i None = tokens i (drop i s) ≡ []
+TokenAt s i (Some t) = TokenHere s i t.from t.to
 
 -- the token from a place up to the end
 abbrev pub token_from : List ℕ → ℕ → Part
@@ -30,9 +29,9 @@ pub record Named (s : List ℕ) (from c : ℕ) : Type 0 where
   pub name : name_of (token_from s from) ≡ take (c - from) (drop from s)
   pub value : value_of (token_from s from) ≡ token_from s (c + 1)
 
-abbrev pub NameAt : List ℕ → ℕ → NameEnd → Type 0
-NameAt s from NameEnd.None = is_empty (name_of (token_from s from)) || is_empty (value_of (token_from s from)).bytes ≡ true
-NameAt s from (NameEnd.At c) = Named s from c
+abbrev pub NameAt : List ℕ → ℕ → Option ℕ → Type 0
+NameAt s from None = is_empty (name_of (token_from s from)) || is_empty (value_of (token_from s from)).bytes ≡ true
+NameAt s from (Some c) = Named s from c
 
 -- bytes from one place to another
 abbrev pub span_to : ℕ → ℕ → Span

@@ -4,40 +4,25 @@ ghost use Rattle.format.specs.Bytes.{digit, white};
 ghost use Rattle.format.specs.Texts.{same, starts_with, run, bytes_at};
 ghost use Rattle.values.specs.Runs.{passes};
 
-use super::least;
-
+#[tactic(auto, unfolding(format::specs::Bytes::digit))]
 pub fn is_digit(b: u8) -> bool
     ensures { result ≡ digit b }
 {
-    b'0' <= b && b <= b'9'
+    b.is_ascii_digit()
 }
 
+#[tactic(auto, unfolding(format::specs::Bytes::white))]
 pub fn is_white(b: u8) -> bool
     ensures { result ≡ white b }
 {
-    if b == b' ' {
-        return true;
-    }
-    if b == b'\t' {
-        return true;
-    }
-    if b == b'\n' {
-        return true;
-    }
-    if b == 0x0C {
-        return true;
-    }
-    b == b'\r'
+    matches!(b, b' ' | b'\t' | b'\n' | 0x0C | b'\r')
 }
 
 // Does this byte stand at `at`.
 pub fn is_at(s: &[u8], at: usize, b: u8) -> bool
     ensures { result ≡ starts_with (b ∷ []) (drop at s.now) }
 {
-    if at < s.len() {
-        return s[at] == b;
-    }
-    false
+    s.get(at) == Some(&b)
 }
 
 // What a run is made of.
@@ -47,11 +32,14 @@ pub enum ByteKind {
     // All but whitespace.
     Token,
     Digits,
+    // ASCII letters and digits.
+    Alphanumeric,
     // All but this byte.
     Until(u8),
     Only(u8),
 }
 
+#[tactic(auto, unfolding(format::specs::Bytes::alphanumeric, format::specs::Bytes::digit))]
 fn goes_on(kind: ByteKind, b: u8) -> bool
     ensures { result ≡ passes kind b }
 {
@@ -59,6 +47,7 @@ fn goes_on(kind: ByteKind, b: u8) -> bool
         ByteKind::White => is_white(b),
         ByteKind::Token => !is_white(b),
         ByteKind::Digits => is_digit(b),
+        ByteKind::Alphanumeric => b.is_ascii_alphanumeric(),
         ByteKind::Until(c) => b != c,
         ByteKind::Only(c) => b == c,
     }
@@ -68,6 +57,7 @@ fn goes_on(kind: ByteKind, b: u8) -> bool
 pub fn past(s: &[u8], at: usize, kind: ByteKind) -> usize
     ensures { result ≡ at + length (run (passes kind) (drop at s.now)) }
 {
+    // With a `for`, over places or over what is left, the lines of a file are read a fifth slower or more.
     let mut i = at;
     while i < s.len() {
         if !goes_on(kind, s[i]) {
@@ -82,24 +72,13 @@ pub fn past(s: &[u8], at: usize, kind: ByteKind) -> usize
 pub fn part<'a>(text: &'a [u8], from: usize, to: usize) -> &'a [u8]
     ensures { result.now ≡ bytes_at text.now from to }
 {
-    let end = least(to, text.len());
-    let start = least(from, end);
-    &text[start..end]
+    let end = to.min(text.len());
+    &text[from.min(end)..end]
 }
 
 // Are these the same bytes.
 pub fn same_bytes(a: &[u8], b: &[u8]) -> bool
     ensures { result ≡ same a.now b.now }
 {
-    if a.len() != b.len() {
-        return false;
-    }
-    let mut i = 0;
-    while i < a.len() {
-        if a[i] != b[i] {
-            return false;
-        }
-        i += 1;
-    }
-    true
+    a == b
 }

@@ -3,12 +3,11 @@
 
 pub mod bytes;
 pub mod inner;
-pub mod names;
 pub mod numbers;
 pub mod times;
 pub mod tokens;
 
-ghost use Rattle.std.specs.Prelude.{◌≡◌, ◌≤◌, min, length};
+ghost use Rattle.std.specs.Prelude.{◌≡◌, length};
 ghost use Rattle.format.specs.Times.{timestamp, only_time};
 ghost use Rattle.format.specs.TellingTimes.{stamp_answer, time_told, tag_time_told};
 ghost use Rattle.values.specs.Times.{stamp_is, ended_is};
@@ -56,13 +55,4 @@ pub fn read_only_time(text: &[u8]) -> Stamp
     ensures answer { stamp_answer result ≡ tag_time_told text.now }
 {
     ended(times::read_timestamp(text, 0), text.len())
-}
-
-pub fn least(a: usize, b: usize) -> usize
-    ensures { result ≡ min a b }
-{
-    if a < b {
-        return a;
-    }
-    b
 }

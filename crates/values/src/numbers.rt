@@ -1,26 +1,25 @@
 // Decimal numbers of any length, held up to a number above every limit.
-ghost use Rattle.std.specs.Prelude.{◌≡◌, ◌||◌, ◌&&◌, ltb, eqb, ◌-◌, ◌≤◌, min, get_or, take, ◌++◌};
+ghost use Rattle.std.specs.Prelude.{◌≡◌, ◌-◌, ◌≤◌, ◌<◌, min, get_or, take, ◌++◌};
 ghost use Rattle.format.specs.Bytes.{ascii};
-ghost use Rattle.format.specs.Numbers.{number, decimal, percentage, line_number, line_count};
-ghost use Rattle.values.specs.Numbers.{cap, decimal_is, percentage_is, percentage_of, line_of, line_number_is, line_number_answer, number_answer, line_count_is, line_count_answer, count_answer};
+ghost use Rattle.format.specs.Numbers.{number, decimal, percentage, signed, line_number, line_count};
+ghost use Rattle.values.specs.Numbers.{cap, decimal_is, up_to, line_number_is, line_number_answer, number_answer, line_count_is, line_count_answer, count_answer};
 
-use super::bytes::ByteKind;
+use super::bytes::{ByteKind, is_at, past};
 
 // Above every limit: a number that is greater is held at this.
 const CAP: u64 = 1_000_000;
+
+fn digit_value(b: u8) -> u64
+    ensures { result ≡ b - 0x30 }
+{
+    b.saturating_sub(b'0') as u64
+}
 
 // The value of the digit at `i`, 0 after the end.
 fn digit_at(ds: &[u8], i: usize) -> u64
     ensures { (result ≡ get_or ds.now i 0 - 0x30) × (result ≤ 207) }
 {
-    if ds.len() <= i {
-        return 0;
-    }
-    let b = ds[i];
-    if b < b'0' {
-        return 0;
-    }
-    (b - b'0') as u64
+    ds.get(i).map_or(0, |&b| digit_value(b))
 }
 
 // Digits as a base-ten integer, held at CAP.
@@ -28,13 +27,8 @@ pub(crate) fn number_of(ds: &[u8]) -> u64
     ensures { result ≡ min (number ds.now) cap }
 {
     let mut v: u64 = 0;
-    let mut i = 0;
-    while i < ds.len() {
-        v = v * 10 + digit_at(ds, i);
-        if CAP < v {
-            v = CAP;
-        }
-        i += 1;
+    for &d in ds {
+        v = CAP.min(v * 10 + digit_value(d));
     }
     v
 }
@@ -48,164 +42,127 @@ fn six_digits(ds: &[u8]) -> u32
     (a + b + digit_at(ds, 4) * 10 + digit_at(ds, 5)) as u32
 }
 
+// A decimal without a sign.
 #[derive(Clone, Copy)]
-pub enum Decimal {
-    Bad,
-    // The digits before the full stop, held at CAP; the millionths after it; is any digit after it not 0.
-    Good {
-        whole: u64,
-        fraction: u32,
-        more: bool,
-    },
+struct Decimal {
+    // The digits before the full stop, held at CAP.
+    whole: u64,
+    // The millionths after it.
+    fraction: u32,
+    // Is any digit after it not 0.
+    more: bool,
 }
 
-fn read_decimal(s: &[u8]) -> Decimal
+impl Decimal {
+    // In millionths, where it is not above a limit.
+    fn up_to(self, limit: u64) -> Option<u64>
+        requires { limit < 1_000_000 }
+        ensures { result ≡ up_to limit self }
+    {
+        if limit < self.whole || (self.whole == limit && self.more) {
+            return None;
+        }
+        Some(self.whole * 1_000_000 + self.fraction as u64)
+    }
+}
+
+fn read_decimal(s: &[u8]) -> Option<Decimal>
     ensures { result ≡ decimal_is (decimal s.now) }
 {
-    let end = super::bytes::past(s, 0, ByteKind::Digits);
+    let end = past(s, 0, ByteKind::Digits);
     if end == 0 {
-        return Decimal::Bad;
+        return None;
     }
     let whole = number_of(&s[..end]);
     if end == s.len() {
-        return Decimal::Good {
+        return Some(Decimal {
             whole,
             fraction: 0,
             more: false,
-        };
+        });
     }
     if s[end] != b'.' {
-        return Decimal::Bad;
+        return None;
     }
     let from = end + 1;
     if s.len() == from {
-        return Decimal::Bad;
+        return None;
     }
-    if super::bytes::past(s, from, ByteKind::Digits) < s.len() {
-        return Decimal::Bad;
+    if past(s, from, ByteKind::Digits) < s.len() {
+        return None;
     }
     let rest = &s[from..];
-    Decimal::Good {
+    Some(Decimal {
         whole,
         fraction: six_digits(rest),
-        more: super::bytes::past(rest, 0, ByteKind::Only(b'0')) < rest.len(),
-    }
+        more: past(rest, 0, ByteKind::Only(b'0')) < rest.len(),
+    })
+}
+
+// In millionths.
+pub fn read_percentage(s: &[u8]) -> Option<u64>
+    ensures { result ≡ percentage s.now }
+{
+    let [size @ .., b'%'] = s else {
+        return None;
+    };
+    read_decimal(size)?.up_to(100)
 }
 
 #[derive(Clone, Copy)]
-pub enum Percentage {
+pub struct LineNumber {
+    pub negative: bool,
+    pub millionths: u64,
+}
+
+// Why a line number or a count of lines cannot be read.
+#[derive(Clone, Copy, PartialEq, Eq)]
+pub enum NumberError {
+    // It is none.
     Bad,
-    // In millionths.
-    Good(u64),
-}
-
-// A decimal up to 100, in millionths.
-fn share_of(size: Decimal) -> Percentage
-    ensures { result ≡ percentage_of size }
-{
-    match size {
-        Decimal::Bad => Percentage::Bad,
-        Decimal::Good {
-            whole,
-            fraction,
-            more,
-        } => {
-            if exceeds(whole, more, 100) {
-                return Percentage::Bad;
-            }
-            Percentage::Good(whole * 1_000_000 + fraction as u64)
-        }
-    }
-}
-
-pub fn read_percentage(s: &[u8]) -> Percentage
-    ensures { result ≡ percentage_is (percentage s.now) }
-{
-    if s.len() == 0 {
-        return Percentage::Bad;
-    }
-    let last = s.len() - 1;
-    if s[last] != b'%' {
-        return Percentage::Bad;
-    }
-    share_of(read_decimal(&s[..last]))
-}
-
-// Is a decimal with these digits before the full stop, and others than 0 after it or not, above a limit.
-fn exceeds(whole: u64, more: bool, limit: u64) -> bool
-    ensures { result ≡ (ltb limit whole || (eqb whole limit && more)) }
-{
-    if limit < whole {
-        return true;
-    }
-    whole == limit && more
-}
-
-#[derive(Clone, Copy)]
-pub enum LineNumber {
-    Bad,
-    // Beyond 999,999 either way.
+    // It is beyond 999,999, either way.
     Over,
-    Good { negative: bool, millionths: u64 },
 }
 
 // A decimal as a line number, with a minus before it or not.
-fn line_of(minus: bool, size: Decimal) -> LineNumber
-    ensures { result ≡ line_of minus size }
+fn read_signed(minus: bool, s: &[u8]) -> Result<LineNumber, NumberError>
+    ensures { result ≡ line_number_is (signed minus (decimal s.now)) }
 {
-    match size {
-        Decimal::Bad => LineNumber::Bad,
-        Decimal::Good {
-            whole,
-            fraction,
-            more,
-        } => {
-            if exceeds(whole, more, 999_999) {
-                return LineNumber::Over;
-            }
-            let millionths = whole * 1_000_000 + fraction as u64;
-            LineNumber::Good {
-                negative: minus && 0 < millionths,
-                millionths,
-            }
-        }
-    }
+    let Some(size) = read_decimal(s) else {
+        return Err(NumberError::Bad);
+    };
+    let Some(millionths) = size.up_to(999_999) else {
+        return Err(NumberError::Over);
+    };
+    Ok(LineNumber {
+        negative: minus && 0 < millionths,
+        millionths,
+    })
 }
 
-pub fn read_line_number(s: &[u8]) -> LineNumber
+pub fn read_line_number(s: &[u8]) -> Result<LineNumber, NumberError>
     ensures is { result ≡ line_number_is (line_number s.now) }
     ensures answer { line_number_answer result ≡ number_answer (line_number s.now) }
 {
-    if s.len() == 0 {
-        return LineNumber::Bad;
+    if is_at(s, 0, b'-') {
+        return read_signed(true, &s[1..]);
     }
-    if s[0] == b'-' {
-        return line_of(true, read_decimal(&s[1..]));
-    }
-    line_of(false, read_decimal(s))
+    read_signed(false, s)
 }
 
-#[derive(Clone, Copy)]
-pub enum LineCount {
-    Bad,
-    // Above 999,999.
-    Over,
-    Good(u64),
-}
-
-pub fn read_line_count(s: &[u8]) -> LineCount
+pub fn read_line_count(s: &[u8]) -> Result<u64, NumberError>
     ensures is { result ≡ line_count_is (line_count s.now) }
     ensures answer { line_count_answer result ≡ count_answer (line_count s.now) }
 {
-    if s.len() == 0 {
-        return LineCount::Bad;
+    if s.is_empty() {
+        return Err(NumberError::Bad);
     }
-    if super::bytes::past(s, 0, ByteKind::Digits) < s.len() {
-        return LineCount::Bad;
+    if past(s, 0, ByteKind::Digits) < s.len() {
+        return Err(NumberError::Bad);
     }
     let n = number_of(s);
     if 999_999 < n {
-        return LineCount::Over;
+        return Err(NumberError::Over);
     }
-    LineCount::Good(n)
+    Ok(n)
 }

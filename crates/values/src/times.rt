@@ -110,7 +110,7 @@ pub fn read_timestamp(s: &[u8], at: usize) -> Stamp
     if end == at {
         return Stamp::Bad {
             fault: TimeFault::DigitMissing,
-            at: super::least(at, s.len()),
+            at: at.min(s.len()),
         };
     }
     let first = super::numbers::number_of(&s[at..end]);

@@ -2,7 +2,7 @@
 // plain, parted by tabs.
 ghost use Rattle.std.specs.Prelude.{◌≤◌, ◌<◌, length};
 
-use format::{Converted, Plainness};
+use format::ConvertError;
 use listing::printing;
 use std::io;
 use std::io::Write;
@@ -22,7 +22,7 @@ fn digit(c: u8) -> u8
 fn decode(line: &[u8], raw: &mut [u8]) -> usize
     ensures { result ≤ length raw.new }
 {
-    let count = values::least(line.len() / 2, raw.len());
+    let count = raw.len().min(line.len() / 2);
     for n in 0..count {
         raw[n] = digit(line[2 * n]) * 16 + digit(line[2 * n + 1]);
     }
@@ -48,8 +48,8 @@ fn print_hex<W: Write>(out: &mut W, bytes: &[u8]) -> io::Result<()> {
 
 fn print_place<W: Write>(out: &mut W, raw: &[u8]) -> io::Result<()> {
     match plain::first_not_plain(raw) {
-        Plainness::Plain => printing::print(out, b"\tplain\n"),
-        Plainness::NotPlainAt(at) => {
+        None => printing::print(out, b"\tplain\n"),
+        Some(at) => {
             printing::number(out, at as u64)?;
             printing::print(out, b"\n")
         }
@@ -59,14 +59,14 @@ fn print_place<W: Write>(out: &mut W, raw: &[u8]) -> io::Result<()> {
 fn print_text<W: Write>(out: &mut W, raw: &[u8]) -> io::Result<()> {
     let mut room = [0u8; 192];
     match plain::convert(raw, &mut room) {
-        Converted::Text(n) => {
+        Ok(n) => {
             if n <= room.len() {
                 return print_hex(out, &room[..n]);
             }
             Ok(())
         }
-        Converted::TooLong => printing::print(out, b"refused 1"),
-        Converted::RoomTooShort(_) => printing::print(out, b"refused 2"),
+        Err(ConvertError::TooLong) => printing::print(out, b"refused 1"),
+        Err(ConvertError::RoomTooShort(_)) => printing::print(out, b"refused 2"),
     }
 }
 

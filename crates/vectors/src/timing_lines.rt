@@ -1,6 +1,7 @@
 // A line read by its first letter, and printed with what was read: T a timestamp, G what stands in a timestamp tag, P a percentage, N a line
 // number, C a count of lines, S cue settings, R region settings, L a timing line. Numbers are in milliseconds and millionths; after a time stands
 // where it ends, and where a time or a timing line fails, the number of the step and the place.
+use answers::Told;
 use format::regions::Region;
 use format::rows::*;
 use format::settings::{Settings, Span};
@@ -8,54 +9,39 @@ use format::times::{Stamp, Timing, TimingLine};
 use listing::printing;
 use std::io;
 use std::io::Write;
-use values::numbers::{LineCount, LineNumber, Percentage};
+use values::numbers::NumberError;
 
-// Codes of what was found in a text: no number, one above its limit, a number from 0 on, one below 0.
-const FAILS: u64 = 0;
-
-const OVER: u64 = 1;
-
-const FOUND: u64 = 2;
-
-const BELOW: u64 = 3;
-
-fn print_found<W: Write>(out: &mut W, code: u64, n: u64) -> io::Result<()> {
-    printing::word(out, b"fails,over,,-,", code)?;
-    if FOUND <= code {
-        return printing::digits(out, n);
+// What is printed where there is no number, and where one is above its limit.
+fn print_error<W: Write>(out: &mut W, why: NumberError) -> io::Result<()> {
+    match why {
+        NumberError::Bad => printing::print(out, b"fails"),
+        NumberError::Over => printing::print(out, b"over"),
     }
-    Ok(())
 }
 
 fn print_percentage<W: Write>(out: &mut W, text: &[u8]) -> io::Result<()> {
     match values::numbers::read_percentage(text) {
-        Percentage::Bad => print_found(out, FAILS, 0),
-        Percentage::Good(n) => print_found(out, FOUND, n),
+        Some(n) => printing::digits(out, n),
+        None => print_error(out, NumberError::Bad),
     }
 }
 
 fn print_line_number<W: Write>(out: &mut W, text: &[u8]) -> io::Result<()> {
     match values::numbers::read_line_number(text) {
-        LineNumber::Bad => print_found(out, FAILS, 0),
-        LineNumber::Over => print_found(out, OVER, 0),
-        LineNumber::Good {
-            negative,
-            millionths,
-        } => {
-            if negative {
-                print_found(out, BELOW, millionths)
-            } else {
-                print_found(out, FOUND, millionths)
+        Ok(n) => {
+            if n.negative {
+                printing::print(out, b"-")?;
             }
+            printing::digits(out, n.millionths)
         }
+        Err(why) => print_error(out, why),
     }
 }
 
 fn print_line_count<W: Write>(out: &mut W, text: &[u8]) -> io::Result<()> {
     match values::numbers::read_line_count(text) {
-        LineCount::Bad => print_found(out, FAILS, 0),
-        LineCount::Over => print_found(out, OVER, 0),
-        LineCount::Good(n) => print_found(out, FOUND, n),
+        Ok(n) => printing::digits(out, n),
+        Err(why) => print_error(out, why),
     }
 }
 
@@ -69,7 +55,7 @@ fn print_failed<W: Write>(out: &mut W, told: [u64; 8]) -> io::Result<bool> {
     if told[0] == 0 {
         return Ok(false);
     }
-    print_found(out, FAILS, 0)?;
+    print_error(out, NumberError::Bad)?;
     print_labelled(out, b" ", told[0])?;
     print_labelled(out, b" ", told[1])?;
     Ok(true)
@@ -77,8 +63,8 @@ fn print_failed<W: Write>(out: &mut W, told: [u64; 8]) -> io::Result<bool> {
 
 fn print_time<W: Write>(out: &mut W, read: Stamp) -> io::Result<()> {
     let mut told = [0u64; 8];
-    if answers::time(read, &mut told) == 5 {
-        return print_found(out, OVER, 0);
+    if read.tell(&mut told) == 5 {
+        return print_error(out, NumberError::Over);
     }
     if print_failed(out, told)? {
         return Ok(());
@@ -99,7 +85,7 @@ fn print_part<W: Write>(out: &mut W, text: &[u8], part: Span) -> io::Result<()> 
 }
 
 // A choice whose first word carries no number.
-fn print_choice<W: Write>(out: &mut W, words: &[u8], code: u64, n: u64) -> io::Result<()> {
+fn print_choice<W: Write>(out: &mut W, words: &[&[u8]], code: u64, n: u64) -> io::Result<()> {
     printing::word(out, words, code)?;
     if 0 < code {
         return printing::digits(out, n);
@@ -110,37 +96,43 @@ fn print_choice<W: Write>(out: &mut W, words: &[u8], code: u64, n: u64) -> io::R
 fn print_line<W: Write>(out: &mut W, row: CueRow) -> io::Result<()> {
     print_choice(
         out,
-        b" line auto, line , line -,",
+        &[b" line auto", b" line ", b" line -"],
         row[CUE_LINE],
         row[CUE_LINE_NUMBER],
     )?;
-    printing::word(out, b" snap,,", row[CUE_SNAP])?;
-    printing::word(out, b" start, center, end,", row[CUE_LINE_ALIGN])
+    printing::word(out, &[b" snap", b""], row[CUE_SNAP])?;
+    printing::word(out, &[b" start", b" center", b" end"], row[CUE_LINE_ALIGN])
 }
 
 fn print_position<W: Write>(out: &mut W, row: CueRow) -> io::Result<()> {
     print_choice(
         out,
-        b" position auto, position ,",
+        &[b" position auto", b" position "],
         row[CUE_POSITION],
         row[CUE_POSITION_NUMBER],
     )?;
     printing::word(
         out,
-        b" auto, line-left, center, line-right,",
+        &[b" auto", b" line-left", b" center", b" line-right"],
         row[CUE_POSITION_ALIGN],
     )
 }
 
 // The choices of a cue's row.
 fn print_cue_row<W: Write>(out: &mut W, row: CueRow) -> io::Result<()> {
-    printing::word(out, b"horizontal,rl,lr,", row[CUE_VERTICAL])?;
+    printing::word(out, &[b"horizontal", b"rl", b"lr"], row[CUE_VERTICAL])?;
     print_line(out, row)?;
     print_position(out, row)?;
     print_labelled(out, b" size ", row[CUE_SIZE])?;
     printing::word(
         out,
-        b" align start, align center, align end, align left, align right,",
+        &[
+            b" align start",
+            b" align center",
+            b" align end",
+            b" align left",
+            b" align right",
+        ],
         row[CUE_ALIGN],
     )
 }
@@ -154,7 +146,7 @@ fn row_of(settings: Settings) -> CueRow {
         end: 0,
         text: none,
         settings,
-        region: RegionIndex::None,
+        region: None,
     };
     rows::cue_row(entry, LineSpan::NONE)
 }
@@ -182,7 +174,7 @@ fn print_region_row<W: Write>(out: &mut W, row: RegionRow) -> io::Result<()> {
     print_labelled(out, b" width ", row[REGION_WIDTH])?;
     print_labelled(out, b" lines ", row[REGION_LINES])?;
     print_points(out, row)?;
-    printing::word(out, b" none, up,", row[REGION_SCROLL])
+    printing::word(out, &[b" none", b" up"], row[REGION_SCROLL])
 }
 
 fn print_region<W: Write>(out: &mut W, text: &[u8], region: Region) -> io::Result<()> {
@@ -205,8 +197,8 @@ fn print_timing<W: Write>(out: &mut W, text: &[u8], timing: Timing) -> io::Resul
 fn print_timing_line<W: Write>(out: &mut W, text: &[u8]) -> io::Result<()> {
     let read = timing::line_of(text, 0, text.len());
     let mut told = [0u64; 8];
-    if answers::timing_line(read, &mut told) == 5 {
-        return print_found(out, OVER, 0);
+    if read.tell(&mut told) == 5 {
+        return print_error(out, NumberError::Over);
     }
     if print_failed(out, told)? {
         return Ok(());
@@ -220,7 +212,7 @@ fn print_timing_line<W: Write>(out: &mut W, text: &[u8]) -> io::Result<()> {
 fn print_cue_settings<W: Write>(out: &mut W, text: &[u8]) -> io::Result<()> {
     let taken = cue_settings::all_settings(text, 0, text.len());
     if taken.over {
-        return print_found(out, OVER, 0);
+        return print_error(out, NumberError::Over);
     }
     let settings = taken.settings;
     let region = taken.region;
@@ -230,7 +222,7 @@ fn print_cue_settings<W: Write>(out: &mut W, text: &[u8]) -> io::Result<()> {
 fn print_region_settings<W: Write>(out: &mut W, text: &[u8]) -> io::Result<()> {
     let taken = regions::all_settings(text, 0, text.len());
     if taken.over {
-        return print_found(out, OVER, 0);
+        return print_error(out, NumberError::Over);
     }
     let region = taken.region;
     print_region(out, text, region)

@@ -1,14 +1,8 @@
--- How the code tells which test fails, and which row of a list.
+-- A row of a list that fails a test, as writing answers it.
 use Rattle.std.specs.Prelude.{ℕ, List, [], ◌∷◌}
-use Rattle.std.proofs.Math.Option.{Option, none, some}
+use Rattle.std.specs.Prelude.{Option, option_map}
 use Rattle.writable.specs.declared.Fault.{Fault}
 
--- the first failing test, counted from 1; 0 for none
-abbrev pub test_number : Option ℕ → ℕ
-test_number none = 0
-test_number (some n) = n
-
--- a row that fails, with its list, as writing answers it
-abbrev pub fault_is : ℕ → Fault → Option (List ℕ)
-fault_is list Fault.None = none
-fault_is list (Fault.At index test) = some (list ∷ index ∷ test ∷ [])
+-- the first row that fails, with its list
+abbrev pub fault_is : ℕ → Option Fault → Option (List ℕ)
+fault_is list fault = option_map (λ (f : Fault). list ∷ f.index ∷ f.test ∷ []) fault

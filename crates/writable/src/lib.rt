@@ -8,38 +8,38 @@ ghost use Rattle.std.specs.Prelude.{◌*◌, ◌≡◌, cond, not, ◌&&◌, [],
 ghost use Rattle.format.specs.Limits.{max_line};
 ghost use Rattle.format.specs.Texts.{bytes_at};
 ghost use Rattle.format.specs.Rows.{cue_entry};
-ghost use Rattle.format.specs.Contents.{option_of, region_of_entry, cue_of_row};
+ghost use Rattle.format.specs.Contents.{region_of_entry, cue_of_row};
 ghost use Rattle.format.specs.Writable.{first_failing, at_most100, is_start, is_auto, line_fits, position_fits, names_of, cue_test1, cue_test2, cue_test3, cue_test4, cue_test5, cue_test6, cue_tests, cue_fails, region_test1, region_test3, region_tests, region_fails, style_fails};
 ghost use Rattle.format.specs.Writing.{first_in};
 ghost use Rattle.lookup.specs.Known.{AllLast};
-ghost use Rattle.writable.specs.Faults.{test_number, fault_is};
+ghost use Rattle.writable.specs.Faults.{fault_is};
 
 use format::regions::{Region, RegionSettings};
-use format::rows::{CueRow, RegionIndex, RegionRow, StyleRow};
+use format::rows::{CueRow, RegionRow, StyleRow};
 use format::settings::{Line, LineAlign, LinePlace, Position, PositionAlign, PositionPlace, Span};
 use lookup::inner::KNOWN_ROWS;
 use parts::part_plain;
 use values::bytes::part;
 
-// The first row of a list that is not writable, and the first test that it fails.
+// A row of a list that is not writable, and the number of the first test that it fails.
 #[derive(Clone, Copy)]
-pub enum Fault {
-    None,
-    At { index: usize, test: usize },
+pub struct Fault {
+    pub index: usize,
+    pub test: usize,
 }
 
-// The first test that a style fails; 0 where it is writable.
-fn style_test(text: &[u8], row: StyleRow) -> usize
-    ensures { result ≡ test_number (style_fails text.now row) }
+// The first test that a style fails, by its number; none where the style is writable.
+fn style_test(text: &[u8], row: StyleRow) -> Option<usize>
+    ensures { result ≡ style_fails text.now row }
 {
     let place = rows::styles::text(row);
     if !part_plain(text, place.from, place.to) {
-        return 1;
+        return Some(1);
     }
     if !texts::is_unbroken(part(text, place.from, place.to)) {
-        return 2;
+        return Some(2);
     }
-    0
+    None
 }
 
 fn at_most_100(n: u64) -> bool
@@ -69,22 +69,22 @@ fn percentages_fit(settings: RegionSettings) -> bool
     at_most_100(viewport.y)
 }
 
-// A region's tests 2 to 4: the first that fails, or 0.
-fn region_values_test(text: &[u8], region: Region) -> usize
-    ensures { result ≡ test_number (first_failing 2 (region_tests (region_of_entry text.now region))) }
+// A region's tests 2 to 4: the first that fails.
+fn region_values_test(text: &[u8], region: Region) -> Option<usize>
+    ensures { result ≡ first_failing 2 (region_tests (region_of_entry text.now region)) }
 {
     let id = region.id;
     let settings = region.settings;
     if !texts::is_region_identifier(part(text, id.from, id.to)) {
-        return 2;
+        return Some(2);
     }
     if !percentages_fit(settings) {
-        return 3;
+        return Some(3);
     }
     if 999_999 < settings.lines {
-        return 4;
+        return Some(4);
     }
-    0
+    None
 }
 
 // A region's test 1, of its row.
@@ -98,12 +98,12 @@ fn region_test_1(text: &[u8], row: RegionRow) -> bool
     rows::regions::are_named(row)
 }
 
-// The first test that a region fails; 0 where it is writable.
-fn region_test(text: &[u8], row: RegionRow) -> usize
-    ensures { result ≡ test_number (region_fails text.now row) }
+// The first test that a region fails; none where the region is writable.
+fn region_test(text: &[u8], row: RegionRow) -> Option<usize>
+    ensures { result ≡ region_fails text.now row }
 {
     if !region_test_1(text, row) {
-        return 1;
+        return Some(1);
     }
     region_values_test(text, rows::regions::entry(row))
 }
@@ -119,11 +119,7 @@ fn times_fit(start: u64, end: u64) -> bool
 fn is_opening(align: LineAlign, snap: bool) -> bool
     ensures { result ≡ (is_start align && snap) }
 {
-    match align {
-        LineAlign::Start => snap,
-        LineAlign::Center => false,
-        LineAlign::End => false,
-    }
+    matches!(align, LineAlign::Start) && snap
 }
 
 // A line that snaps to lines is a number, and any other a percentage.
@@ -156,12 +152,7 @@ fn line_fits(place: LinePlace) -> bool
 fn is_auto(align: PositionAlign) -> bool
     ensures { result ≡ is_auto align }
 {
-    match align {
-        PositionAlign::Auto => true,
-        PositionAlign::LineLeft => false,
-        PositionAlign::Center => false,
-        PositionAlign::LineRight => false,
-    }
+    matches!(align, PositionAlign::Auto)
 }
 
 fn position_fits(place: PositionPlace) -> bool
@@ -189,17 +180,15 @@ fn numbers_fit(row: CueRow) -> bool
 }
 
 // A cue's test 6, where `known` holds indices of regions that pass it, each increased by one.
-fn region_fits(text: &[u8], regions: &[RegionRow], region: RegionIndex, known: &mut [usize]) -> bool
+fn region_fits(text: &[u8], regions: &[RegionRow], region: Option<u64>, known: &mut [usize]) -> bool
     requires known_len { length known.old ≡ 256 }
     requires all_last { AllLast (names_of text.now regions.now) known.old }
-    ensures answer { result ≡ cue_test6 (names_of text.now regions.now) (option_of region) }
+    ensures answer { result ≡ cue_test6 (names_of text.now regions.now) (region) }
     ensures known { AllLast (names_of text.now regions.now) known.new }
 {
     match region {
-        RegionIndex::None => true,
-        RegionIndex::At(index) => {
-            lookup::inner::is_known_last(text, regions, index as usize, known)
-        }
+        None => true,
+        Some(index) => { lookup::inner::is_known_last(text, regions, index as usize, known) }
     }
 }
 
@@ -213,105 +202,94 @@ fn text_fits(s: &[u8]) -> bool
     texts::is_unbroken(s)
 }
 
-// A cue's tests 2 and 3, of the places of its parts: the first that fails, or 0.
-fn cue_parts_test(text: &[u8], id: Span, words: Span) -> usize
-    ensures { result ≡ test_number (first_failing 2 (cue_test2 (bytes_at text.now id.from id.to) ∷ cue_test3 (bytes_at text.now words.from words.to) ∷ [])) }
+// A cue's tests 2 and 3, of the places of its parts: the first that fails.
+fn cue_parts_test(text: &[u8], id: Span, words: Span) -> Option<usize>
+    ensures { result ≡ first_failing 2 (cue_test2 (bytes_at text.now id.from id.to) ∷ cue_test3 (bytes_at text.now words.from words.to) ∷ []) }
 {
     if !texts::is_identifier(part(text, id.from, id.to)) {
-        return 2;
+        return Some(2);
     }
     if !text_fits(part(text, words.from, words.to)) {
-        return 3;
+        return Some(3);
     }
-    0
+    None
 }
 
-// A cue's tests 4 and 5: the first that fails, or 0.
-fn cue_numbers_test(row: CueRow) -> usize
-    ensures { result ≡ test_number (first_failing 4 (cue_test4 (cue_entry row).start (cue_entry row).end ∷ cue_test5 (cue_entry row).settings ∷ [])) }
+// A cue's tests 4 and 5: the first that fails.
+fn cue_numbers_test(row: CueRow) -> Option<usize>
+    ensures { result ≡ first_failing 4 (cue_test4 (cue_entry row).start (cue_entry row).end ∷ cue_test5 (cue_entry row).settings ∷ []) }
 {
     if !times_fit(rows::cues::start(row), rows::cues::end(row)) {
-        return 4;
+        return Some(4);
     }
     if !numbers_fit(row) {
-        return 5;
+        return Some(5);
     }
-    0
+    None
 }
 
-// The first of a cue's tests 1 to 5, which do not look at its region, that fails; 0 where none does.
-pub fn cue_fields_test(text: &[u8], row: CueRow) -> usize
-    ensures { result ≡ test_number (first_failing 1 (cue_test1 text.now row ∷ cue_tests (cue_of_row text.now row))) }
+// The first of a cue's tests 1 to 5, which do not look at its region, that fails.
+pub fn cue_fields_test(text: &[u8], row: CueRow) -> Option<usize>
+    ensures { result ≡ first_failing 1 (cue_test1 text.now row ∷ cue_tests (cue_of_row text.now row)) }
 {
     if !parts::test_1(text, row) {
-        return 1;
+        return Some(1);
     }
-    let parts = cue_parts_test(text, rows::cues::id(row), rows::cues::text(row));
-    if parts != 0 {
-        return parts;
+    if let Some(test) = cue_parts_test(text, rows::cues::id(row), rows::cues::text(row)) {
+        return Some(test);
     }
     cue_numbers_test(row)
 }
 
-// The first test that a cue fails; 0 where it is writable.
-fn cue_test(text: &[u8], regions: &[RegionRow], row: CueRow, known: &mut [usize]) -> usize
+// The first test that a cue fails; none where the cue is writable.
+fn cue_test(text: &[u8], regions: &[RegionRow], row: CueRow, known: &mut [usize]) -> Option<usize>
     requires known_len { length known.old ≡ 256 }
     requires all_last { AllLast (names_of text.now regions.now) known.old }
-    ensures answer { result ≡ test_number (cue_fails text.now regions.now row) }
+    ensures answer { result ≡ cue_fails text.now regions.now row }
     ensures known { AllLast (names_of text.now regions.now) known.new }
 {
-    let fields = cue_fields_test(text, row);
-    if fields != 0 {
-        return fields;
+    if let Some(test) = cue_fields_test(text, row) {
+        return Some(test);
     }
     if !region_fits(text, regions, rows::cues::region(row), known) {
-        return 6;
+        return Some(6);
     }
-    0
+    None
 }
 
 // The first style that is not writable.
-pub fn first_style(text: &[u8], styles: &[StyleRow]) -> Fault
+pub fn first_style(text: &[u8], styles: &[StyleRow]) -> Option<Fault>
     ensures { fault_is 0 result ≡ first_in 0 (style_fails text.now) 0 styles.now }
 {
-    let mut i = 0;
-    while i < styles.len() {
-        let test = style_test(text, styles[i]);
-        if test != 0 {
-            return Fault::At { index: i, test };
+    for (index, &row) in styles.iter().enumerate() {
+        if let Some(test) = style_test(text, row) {
+            return Some(Fault { index, test });
         }
-        i += 1;
     }
-    Fault::None
+    None
 }
 
 // The first region that is not writable.
-pub fn first_region(text: &[u8], regions: &[RegionRow]) -> Fault
+pub fn first_region(text: &[u8], regions: &[RegionRow]) -> Option<Fault>
     ensures { fault_is 1 result ≡ first_in 1 (region_fails text.now) 0 regions.now }
 {
-    let mut i = 0;
-    while i < regions.len() {
-        let test = region_test(text, regions[i]);
-        if test != 0 {
-            return Fault::At { index: i, test };
+    for (index, &row) in regions.iter().enumerate() {
+        if let Some(test) = region_test(text, row) {
+            return Some(Fault { index, test });
         }
-        i += 1;
     }
-    Fault::None
+    None
 }
 
 // The first cue that is not writable, among these regions.
-pub fn first_cue(text: &[u8], regions: &[RegionRow], cues: &[CueRow]) -> Fault
+pub fn first_cue(text: &[u8], regions: &[RegionRow], cues: &[CueRow]) -> Option<Fault>
     ensures { fault_is 2 result ≡ first_in 2 (cue_fails text.now regions.now) 0 cues.now }
 {
     let mut known = [0; KNOWN_ROWS];
-    let mut i = 0;
-    while i < cues.len() {
-        let test = cue_test(text, regions, cues[i], &mut known);
-        if test != 0 {
-            return Fault::At { index: i, test };
+    for (index, &row) in cues.iter().enumerate() {
+        if let Some(test) = cue_test(text, regions, row, &mut known) {
+            return Some(Fault { index, test });
         }
-        i += 1;
     }
-    Fault::None
+    None
 }

@@ -12,11 +12,9 @@ use values::bytes::is_white;
 fn holds_arrow(s: &[u8]) -> bool
     ensures { result ≡ holds_arrow s.now }
 {
-    let mut i = 0;
     // How many hyphens stand before this place, two at most.
     let mut hyphens: usize = 0;
-    while i < s.len() {
-        let b = s[i];
+    for &b in s {
         if b == b'-' {
             if hyphens < 2 {
                 hyphens += 1;
@@ -29,7 +27,6 @@ fn holds_arrow(s: &[u8]) -> bool
             }
             hyphens = 0;
         }
-        i += 1;
     }
     false
 }
@@ -38,10 +35,9 @@ fn holds_arrow(s: &[u8]) -> bool
 fn none_empty(s: &[u8]) -> bool
     ensures { result ≡ none_empty (split s.now) }
 {
-    let mut i = 0;
     let mut fresh = true;
-    while i < s.len() {
-        if s[i] == b'\n' {
+    for &b in s {
+        if b == b'\n' {
             if fresh {
                 return false;
             }
@@ -49,31 +45,26 @@ fn none_empty(s: &[u8]) -> bool
         } else {
             fresh = false;
         }
-        i += 1;
     }
     !fresh
 }
 
 // Has the text no empty line and no `-->`.
+#[tactic(auto, unfolding(format::specs::Writable::unbroken))]
 pub(crate) fn is_unbroken(s: &[u8]) -> bool
     ensures { result ≡ unbroken s.now }
 {
-    if !none_empty(s) {
-        return false;
-    }
-    !holds_arrow(s)
+    none_empty(s) && !holds_arrow(s)
 }
 
 // Has the text no LF.
 fn no_line_end(s: &[u8]) -> bool
     ensures { result ≡ not (has lf s.now) }
 {
-    let mut i = 0;
-    while i < s.len() {
-        if s[i] == b'\n' {
+    for &b in s {
+        if b == b'\n' {
             return false;
         }
-        i += 1;
     }
     true
 }
@@ -82,22 +73,17 @@ fn no_line_end(s: &[u8]) -> bool
 pub(crate) fn is_identifier(s: &[u8]) -> bool
     ensures { result ≡ not (has lf s.now) && not (holds_arrow s.now) }
 {
-    if !no_line_end(s) {
-        return false;
-    }
-    !holds_arrow(s)
+    no_line_end(s) && !holds_arrow(s)
 }
 
 // Has the text no ASCII whitespace.
 fn no_white(s: &[u8]) -> bool
     ensures { result ≡ all (λ b. not (white b)) s.now }
 {
-    let mut i = 0;
-    while i < s.len() {
-        if is_white(s[i]) {
+    for &b in s {
+        if is_white(b) {
             return false;
         }
-        i += 1;
     }
     true
 }
@@ -106,8 +92,5 @@ fn no_white(s: &[u8]) -> bool
 pub(crate) fn is_region_identifier(s: &[u8]) -> bool
     ensures { result ≡ all (λ b. not (white b)) s.now && not (holds_arrow s.now) }
 {
-    if !no_white(s) {
-        return false;
-    }
-    !holds_arrow(s)
+    no_white(s) && !holds_arrow(s)
 }

@@ -2,17 +2,17 @@
 use Prim.Native.Nat.{ℕ}
 use mathlib.Core.Path.{◌≡◌, refl, sym}
 use mathlib.Core.List.{List, [], ◌∷◌}
-use mathlib.Core.Option.{Option}
+use Rattle.std.specs.Prelude.{Option, None, Some}
 use Rattle.format.specs.Answers.{Answer, refused}
 use Rattle.format.specs.Writing.{unless_failing}
 use Rattle.writable.specs.Faults.{fault_is}
 use Rattle.writable.specs.declared.Fault.{Fault}
 
-module _ (list : ℕ) {found : Fault} {o : Option (List ℕ)} (e : fault_is list found ≡ o) (answer : Answer) where
-  pub refuses : {index test : ℕ} → found ≡ Fault.At index test → refused 8 (list ∷ index ∷ test ∷ []) ≡ unless_failing o answer
+module _ (list : ℕ) {found : Option Fault} {o : Option (List ℕ)} (e : fault_is list found ≡ o) (answer : Answer) where
+  pub refuses : {index test : ℕ} → found ≡ Some (record { index = index; test = test }) → refused 8 (list ∷ index ∷ test ∷ []) ≡ unless_failing o answer
   unfolding unless_failing
   refuses {index} {test} at = rw (sym e, at) refl
 
-  pub goes_on : found ≡ Fault.None → answer ≡ unless_failing o answer
+  pub goes_on : found ≡ None → answer ≡ unless_failing o answer
   unfolding unless_failing
   goes_on is_none = rw (sym e, is_none) refl

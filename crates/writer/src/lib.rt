@@ -4,18 +4,18 @@
 
 mod checking;
 
-ghost use Rattle.std.specs.Prelude.{◌≡◌, map, ℕ, length, take};
-ghost use Rattle.format.specs.Contents.{cue_of_row, region_of_row, style_of_row, contents_of_rows};
-ghost use Rattle.format.specs.Written.{style_lines, region_lines, cue_lines, apart, line_ended};
+ghost use Rattle.std.specs.Prelude.{◌≡◌, List, map, ℕ, length, take, Ok};
+ghost use Rattle.format.specs.Lines.{join};
+ghost use Rattle.format.specs.Contents.{cue_of_row, region_of_entry, region_of_row, style_of_row, contents_of_rows};
+ghost use Rattle.format.specs.Rows.{region_entry};
+ghost use Rattle.format.specs.Written.{style_lines, region_lines, cue_lines};
 ghost use Rattle.format.specs.Writing.{writing_is, file_of, writing, written_room, ReadBack};
-ghost use Rattle.format.specs.declared.Writing.TheVariants as Cases;
-ghost use Rattle.output.specs.Puts.{Puts};
-ghost use Rattle.writer.specs.Blocks.{block_form};
+ghost use Rattle.output.specs.Puts.{Puts, EachPuts};
+ghost use Rattle.writer.specs.Blocks.{blocks};
 
-use checking::Checked;
-use format::Writing;
+use format::WriteError;
 use format::rows::{CueRow, RegionRow, StyleRow};
-use output::{byte, bytes};
+use output::Output;
 
 // The file that rows over a text give, at the start of the output room.
 pub fn write(
@@ -24,25 +24,18 @@ pub fn write(
     regions: &[RegionRow],
     cues: &[CueRow],
     out: &mut [u8],
-) -> Writing
+) -> Result<usize, WriteError>
     ensures answer { writing_is result ≡ writing text.now styles.now regions.now cues.now (length out.old) }
     ensures out { out.new ≡ written_room text.now styles.now regions.now cues.now out.old }
-    ensures back { (n : ℕ) → result ≡ Cases.File n → ReadBack (contents_of_rows text.now styles.now regions.now cues.now) (take n out.new) }
+    ensures back { (n : ℕ) → result ≡ Ok n → ReadBack (contents_of_rows text.now styles.now regions.now cues.now) (take n out.new) }
 {
-    if let Checked::NotWritable { list, index, test } = checking::check(
-        text, styles, regions, cues,
-    ) {
-        return Writing::NotWritable { list, index, test };
-    }
-    let mut nothing = [0u8; 1];
-    let need = put_file(text, styles, regions, cues, &mut nothing);
-    if format::MAX_FILE < need {
-        return Writing::FileTooLong;
-    }
-    if out.len() < need {
-        return Writing::OutTooShort(need);
-    }
-    Writing::File(put_file(text, styles, regions, cues, out))
+    checking::check(text, styles, regions, cues)?;
+    let put = |out: &mut Output|
+        ensures { Puts (file_of text.entry.now styles.entry.now regions.entry.now cues.entry.now) out.old out.new }
+    {
+        put_file(text, styles, regions, cues, out);
+    };
+    Ok(output::make_file(put, out)?)
 }
 
 fn put_file(
@@ -50,73 +43,39 @@ fn put_file(
     styles: &[StyleRow],
     regions: &[RegionRow],
     cues: &[CueRow],
-    out: &mut [u8],
-) -> usize
-    ensures { Puts (file_of text.now styles.now regions.now cues.now) 0 out.old result out.new }
+    out: &mut Output,
+)
+    ensures { Puts (file_of text.now styles.now regions.now cues.now) out.old out.new }
 {
-    let first = bytes(b"WEBVTT\n", out, 0);
-    let second = put_styles(text, styles, out, first);
-    let third = put_regions(text, regions, out, second);
-    put_cues(text, regions, cues, out, third)
+    out.bytes(b"WEBVTT\n");
+    let style = |row: StyleRow, out: &mut Output|
+        ensures { Puts (join (style_lines (style_of_row text.entry.now row))) out.old out.new }
+    {
+        forms::style(text, row, out);
+    };
+    put_blocks(styles, style, out);
+    let region = |row: RegionRow, out: &mut Output|
+        ensures { Puts (join (region_lines (region_of_row text.entry.now row))) out.old out.new }
+    {
+        forms::region(text, rows::regions::entry(row), out);
+    };
+    put_blocks(regions, region, out);
+    let cue = |row: CueRow, out: &mut Output|
+        ensures { Puts (join (cue_lines (map (region_of_row text.entry.now) regions.entry.now) (cue_of_row text.entry.now row))) out.old out.new }
+    {
+        forms::cue(text, regions, row, out);
+    };
+    put_blocks(cues, cue, out);
 }
 
-// A style's block: an empty line before it, its last line ended.
-fn style_block(text: &[u8], row: StyleRow, out: &mut [u8], at: usize) -> usize
-    ensures { Puts (block_form (style_lines (style_of_row text.now row))) at out.old result out.new }
+// The blocks of a list, each after an empty line and with its last line ended, where `put` puts what a row says.
+fn put_blocks<R: Copy, F: Fn(R, &mut Output)>(rows: &[R], put: F, out: &mut Output)
+    requires { F.IsAlwaysCallable put }
+    ensures { (form : R → List ℕ) → ((row : R) → EachPuts (F.post put row) (form row)) → Puts (blocks (map form rows.now)) out.old out.new }
 {
-    let start = byte(b'\n', out, at);
-    let end = forms::style(text, row, out, start);
-    byte(b'\n', out, end)
-}
-
-fn region_block(text: &[u8], row: RegionRow, out: &mut [u8], at: usize) -> usize
-    ensures { Puts (block_form (region_lines (region_of_row text.now row))) at out.old result out.new }
-{
-    let start = byte(b'\n', out, at);
-    let end = forms::region(text, rows::regions::entry(row), out, start);
-    byte(b'\n', out, end)
-}
-
-fn cue_block(text: &[u8], regions: &[RegionRow], row: CueRow, out: &mut [u8], at: usize) -> usize
-    ensures { Puts (block_form (cue_lines (map (region_of_row text.now) regions.now) (cue_of_row text.now row))) at out.old result out.new }
-{
-    let start = byte(b'\n', out, at);
-    let end = forms::cue(text, regions, row, out, start);
-    byte(b'\n', out, end)
-}
-
-fn put_styles(text: &[u8], styles: &[StyleRow], out: &mut [u8], at: usize) -> usize
-    ensures { Puts (line_ended (apart (map (λ row. style_lines (style_of_row text.now row)) styles.now))) at out.old result out.new }
-{
-    let mut i = 0;
-    let mut to = at;
-    while i < styles.len() {
-        to = style_block(text, styles[i], out, to);
-        i += 1;
+    for &row in rows {
+        out.byte(b'\n');
+        put(row, out);
+        out.byte(b'\n');
     }
-    to
-}
-
-fn put_regions(text: &[u8], regions: &[RegionRow], out: &mut [u8], at: usize) -> usize
-    ensures { Puts (line_ended (apart (map (λ row. region_lines (region_of_row text.now row)) regions.now))) at out.old result out.new }
-{
-    let mut i = 0;
-    let mut to = at;
-    while i < regions.len() {
-        to = region_block(text, regions[i], out, to);
-        i += 1;
-    }
-    to
-}
-
-fn put_cues(text: &[u8], regions: &[RegionRow], cues: &[CueRow], out: &mut [u8], at: usize) -> usize
-    ensures { Puts (line_ended (apart (map (λ row. cue_lines (map (region_of_row text.now) regions.now) (cue_of_row text.now row)) cues.now))) at out.old result out.new }
-{
-    let mut i = 0;
-    let mut to = at;
-    while i < cues.len() {
-        to = cue_block(text, regions, cues[i], out, to);
-        i += 1;
-    }
-    to
 }

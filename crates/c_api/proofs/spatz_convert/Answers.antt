@@ -1,10 +1,12 @@
+use Rattle.format.specs.Converting.{converted_is}
 use Rattle.c_api.proofs.spatz_convert.Goals as goal
 
 pub returns : goal.returns
+unfolding converted_is
 returns c =
     rw (← c.convert.ensures.answer)
     (record {
-      number = c.converted.ensures.number;
+      number = c.tell.ensures.number;
       room = c.convert.ensures.room;
-      values = c.converted.ensures.values;
+      values = c.tell.ensures.values;
     })

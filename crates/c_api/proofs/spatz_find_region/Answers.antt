@@ -7,6 +7,6 @@ returns c =
     let found = c.find_region.ensures.found in
     rw (← found)
     (record {
-      number = c.region_found.ensures.number;
-      values = c.region_found.ensures.values;
+      number = c.tell.ensures.number;
+      values = c.tell.ensures.values;
     })

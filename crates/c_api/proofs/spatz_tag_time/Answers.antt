@@ -5,6 +5,6 @@ returns c =
     let told = c.read_only_time.ensures.answer in
     rw (← told)
     (record {
-      number = c.time.ensures.number;
-      values = c.time.ensures.values;
+      number = c.tell.ensures.number;
+      values = c.tell.ensures.values;
     })

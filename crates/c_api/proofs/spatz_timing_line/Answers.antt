@@ -10,6 +10,6 @@ returns c =
     let told = c.line_of.ensures.answer ∙ ap timing_line_told (part-rest s 0 (omega arith)) in
     rw (← told)
     (record {
-      number = c.timing_line.ensures.number;
-      values = c.timing_line.ensures.values;
+      number = c.tell.ensures.number;
+      values = c.tell.ensures.values;
     })

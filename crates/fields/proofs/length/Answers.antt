@@ -1,46 +1,47 @@
 use Prim.Native.Nat.{◌+◌}
 use mathlib.Core.Path.{◌≡◌, sym, ap, ◌∙◌}
 use native.Mathlib.Omega.{arith}
+use Rattle.std.specs.Prelude.{Some}
 use lib.ListN.{drop}
 use Rattle.format.specs.Fields.{escapes, unescaped}
-use Rattle.fields.specs.Fields.{length_after}
-use Rattle.fields.specs.declared.FieldStep.{FieldStep}
-use Rattle.fields.specs.declared.FieldLength.TheVariants as FieldLength
-use Rattle.fields.proofs.EscapeLaws.{Made, made, length_from_lem, length_more}
+use Rattle.fields.specs.Fields.{Step}
+use Rattle.fields.proofs.EscapeLaws.{Made, made, came, failed, length_after, length_from_lem, length_more}
 use Rattle.fields.proofs.length.Goals as goal
 use Rattle.fields.proofs.length.Goals.{After-step}
 
 -- what the step from `at` says
 step-made :
-    (c : After-step) {step : FieldStep}
+    (c : After-step) {step : Step}
     → c.step.result ≡ step
-    → Made escapes c.args.field.now c.loop-next.at step
-step-made c e = made escapes c.args.field.now c.loop-next.at c.step.ensures e
+    → Made escapes c.args.field.now c.loop-byte.at step
+step-made c e = made escapes c.args.field.now c.loop-byte.at c.step.ensures e
 
-pub loop-next-init : goal.loop-next-init
-loop-next-init c = (omega arith, omega arith, length_from_lem (unescaped c.args.field.now))
+pub loop-byte-init : goal.loop-byte-init
+loop-byte-init c = (omega arith, omega arith, length_from_lem (unescaped c.args.field.now))
 
-pub returns-in-End : goal.returns-in-End
-returns-in-End c =
-    let n = c.loop-next.n in
-    let all : n + 0 ≡ n = omega arith in
-    sym (ap (length_after n) (step-made (goal.at.returns-in-End c).After-step c.in-End.is).text ∙ ap FieldLength.Of all) ∙ c.loop-next.invariant.2
-
-pub returns-in-Bad : goal.returns-in-Bad
-returns-in-Bad c =
-    sym (ap (length_after c.loop-next.n) (step-made (goal.at.returns-in-Bad c).After-step c.in-Bad.is).text) ∙ c.loop-next.invariant.2
+pub returns-in_err-byte : goal.returns-in_err-byte
+returns-in_err-byte c =
+    let none = failed escapes c.args.field.now c.loop-byte.at c.step.ensures (sym c.ok.ensures.value ∙ c.in_err-byte.was) in
+    c.from_residual.ensures ∙ sym (ap (length_after c.loop-byte.n) none) ∙ c.loop-byte.invariant.2
 
 pub overflow_add-n : goal.overflow_add-n
-overflow_add-n c = omega (arith, (step-made (goal.at.overflow_add-n c).After-step c.in-Byte.is).moves)
+overflow_add-n c = omega (arith, (step-made (goal.at.overflow_add-n c).After-step (came c.step.result _ (sym c.ok.ensures.value ∙ c.in_ok-byte.was ∙ ap Some c.in-Some.is))).moves)
 
-pub loop-next-smaller : goal.loop-next-smaller
-loop-next-smaller c = omega (arith, (step-made (goal.at.loop-next-smaller c).After-step c.in-Byte.is).moves)
+pub loop-byte-smaller : goal.loop-byte-smaller
+loop-byte-smaller c = omega (arith, (step-made (goal.at.loop-byte-smaller c).After-step (came c.step.result _ (sym c.ok.ensures.value ∙ c.in_ok-byte.was ∙ ap Some c.in-Some.is))).moves)
 
-pub loop-next-preserved : goal.loop-next-preserved
-loop-next-preserved c =
-    let step = step-made (goal.at.loop-next-preserved c).After-step c.in-Byte.is in
-    let rest = unescaped (drop c.in-Byte.next c.args.field.now) in (
+pub loop-byte-preserved : goal.loop-byte-preserved
+loop-byte-preserved c =
+    let step = step-made (goal.at.loop-byte-preserved c).After-step (came c.step.result _ (sym c.ok.ensures.value ∙ c.in_ok-byte.was ∙ ap Some c.in-Some.is)) in
+    let rest = unescaped (drop c.in-Some.byte.next c.args.field.now) in (
       step.moves.1,
       omega (arith, step.moves),
-      sym (ap (length_after c.loop-next.n) step.text ∙ length_more c.loop-next.n c.in-Byte.value rest) ∙ c.loop-next.invariant.2,
+      sym (ap (length_after c.loop-byte.n) step.text ∙ length_more c.loop-byte.n c.in-Some.byte.value rest) ∙ c.loop-byte.invariant.2,
     )
+
+pub returns : goal.returns
+returns c =
+    let n = c.loop-byte.n in
+    let all : n + 0 ≡ n = omega arith in
+    let step = step-made (goal.at.returns c).After-step (came c.step.result _ (sym c.ok.ensures.value ∙ c.in_ok-byte.was ∙ ap Some c.in_default.is)) in
+    sym (ap (length_after n) step.text ∙ ap Some all) ∙ c.loop-byte.invariant.2

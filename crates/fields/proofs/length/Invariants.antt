@@ -1,14 +1,15 @@
 use Prim.Native.Nat.{◌-◌, ◌≤◌}
 use mathlib.Core.Path.{◌≡◌}
+use Rattle.std.specs.Prelude.{option_map}
 use lib.ListN as Lists
 use lib.ListN.{drop}
 use Rattle.format.specs.Fields.{unescaped}
-use Rattle.fields.specs.Fields.{length_after, length_is}
+use Rattle.fields.proofs.EscapeLaws.{length_after}
 use Rattle.fields.proofs.length.Given as goal
 
--- `fields::length` meets its contract: the bytes counted, and those from `at` on, are the text.
-abbrev pub invariant-loop-next : goal.invariant-loop-next
-invariant-loop-next l = (l.at ≤ Lists.length l.field) × (l.n ≤ l.at) × (length_after l.n (unescaped (drop l.at l.field)) ≡ length_is (unescaped l.field))
+-- the bytes counted, and those from `at` on, are the text
+abbrev pub invariant-loop-byte : goal.invariant-loop-byte
+invariant-loop-byte l = (l.at ≤ Lists.length l.field) × (l.n ≤ l.at) × (length_after l.n (unescaped (drop l.at l.field)) ≡ option_map Lists.length (unescaped l.field))
 
-abbrev pub decreases-loop-next : goal.decreases-loop-next
-decreases-loop-next l = Lists.length l.field - l.at
+abbrev pub decreases-loop-byte : goal.decreases-loop-byte
+decreases-loop-byte l = Lists.length l.field - l.at

@@ -1,4 +1,4 @@
-use Prim.Native.Nat.{◌+◌, ◌-◌, ◌≤◌}
+use Prim.Native.Nat.{◌-◌, ◌≤◌}
 use mathlib.Core.Path.{◌≡◌}
 use mathlib.Core.List.{[]}
 use lib.ListN.{length, get_or}
@@ -7,9 +7,6 @@ use Rattle.format.specs.Fields.{fields}
 use Rattle.laws.proofs.Parted.{parts_from}
 use Rattle.fields.proofs.nth.Given as goal
 
--- `fields::nth` meets its contract: the fields from `at` on, after `left` of them, begin with the one asked for.
-abbrev pub invariant-loop-at : goal.invariant-loop-at
-invariant-loop-at l = (l.at ≤ length l.line + 1) × (get_or (parts_from tab l.line l.at) l.left [] ≡ get_or (fields l.line) l.k [])
-
-abbrev pub decreases-loop-at : goal.decreases-loop-at
-decreases-loop-at l = length l.line + 1 - l.at
+-- the fields from `at` on, after those that are still to be passed, begin with the one asked for
+abbrev pub invariant-loop : goal.invariant-loop
+invariant-loop l = (l.at ≤ length l.line) × (get_or (parts_from tab l.line l.at) (l.k - l.counter) [] ≡ get_or (fields l.line) l.k [])

@@ -1,8 +1,8 @@
 use mathlib.Core.Path.{sym, ap, ◌∙◌}
 use mathlib.Core.Bool.{cond}
-use mathlib.Core.Option.{none}
+use Rattle.std.specs.Prelude.{None}
 use borrow.Author.Tests.{not-true, not-false}
-use Rattle.fields.specs.Fields.{number_is, digits_from}
+use Rattle.fields.specs.Fields.{digits_from}
 use Rattle.fields.proofs.NumberLaws.{begins-short, number_is_lem}
 use Rattle.fields.proofs.read_number.Goals as goal
 
@@ -10,7 +10,7 @@ pub returns-then-not-begins_well : goal.returns-then-not-begins_well
 returns-then-not-begins_well c =
     let field = c.args.field.now in
     let bad = sym c.begins_well.ensures ∙ not-true c.begins_well.result c.if-not-begins_well.true-raw in
-    sym (ap number_is (number_is_lem field ∙ ap (λ t. cond t (digits_from 0 field) none) bad))
+    sym (number_is_lem field ∙ ap (λ t. cond t (digits_from 0 field) None) bad)
 
 pub digits-requires : goal.digits-requires
 digits-requires c =
@@ -20,4 +20,4 @@ pub returns : goal.returns
 returns c =
     let field = c.args.field.now in
     let good = sym c.begins_well.ensures ∙ not-false c.begins_well.result c.if-not-begins_well.false-raw in
-    c.digits.ensures ∙ sym (ap number_is (number_is_lem field ∙ ap (λ t. cond t (digits_from 0 field) none) good))
+    c.digits.ensures ∙ sym (number_is_lem field ∙ ap (λ t. cond t (digits_from 0 field) None) good)

@@ -17,4 +17,4 @@ returns c =
       ← c.part.ensures,
       ← c.part-2.ensures,
     )
-    (c.line_before-timing.ensures then c.timing_line-end.ensures then c.line_after.ensures)
+    (c.line_before.ensures then c.timing_line.ensures then c.line_after.ensures)

@@ -1,16 +1,15 @@
-use native.Mathlib.Omega.{arith}
+use mathlib.Core.Path.{sym}
 use Rattle.output.proofs.PutLaws.{◌then◌, puts_none}
-use Rattle.forms.proofs.FormLaws.{ended-setting}
-use Rattle.values.proofs.NumberLaws.{empty_is, is_empty-not}
+use Rattle.forms.proofs.FormLaws.{no_bytes, ended-setting}
 use Rattle.format.specs.Lines.{after_line_ends}
 use Rattle.format.specs.Written.{written_id}
 use Rattle.forms.proofs.identifier.Goals as goal
 
-pub returns-then-id-eq0 : goal.returns-then-id-eq0
+pub returns-else-not-is_empty : goal.returns-else-not-is_empty
 unfolding written_id after_line_ends
-returns-then-id-eq0 c = let args = c.args in rw (empty_is args.id.now c.if-id-eq0.true) (puts_none args.at args.out.now)
+returns-else-not-is_empty c = rw (sym (no_bytes c.args.id.now), sym c.is_empty.ensures, c.if-not-is_empty.false) (puts_none c.args.out.now)
 
-pub returns : goal.returns
+pub returns-then-not-is_empty : goal.returns-then-not-is_empty
 unfolding written_id
-returns c =
-    rw (is_empty-not c.args.id.now (omega arith), ended-setting) (c.bytes-to.ensures then c.bytes.ensures)
+returns-then-not-is_empty c =
+    rw (sym (no_bytes c.args.id.now), sym c.is_empty.ensures, c.if-not-is_empty.true, ended-setting) (c.bytes.ensures then c.bytes-then-not-is_empty.ensures)

@@ -1,12 +1,11 @@
-use native.Mathlib.Omega.{arith}
+use mathlib.Core.Path.{sym}
 use Rattle.output.proofs.PutLaws.{◌then◌, puts_none}
-use Rattle.values.proofs.NumberLaws.{empty_is, is_empty-not}
+use Rattle.forms.proofs.FormLaws.{no_bytes}
 use Rattle.forms.proofs.line_before.Goals as goal
 
-pub returns-then-s-eq0 : goal.returns-then-s-eq0
-returns-then-s-eq0 c = let args = c.args in rw (empty_is args.s.now c.if-s-eq0.true) (puts_none args.at args.out.now)
+pub returns-else-not-is_empty : goal.returns-else-not-is_empty
+returns-else-not-is_empty c = rw (sym (no_bytes c.args.s.now), sym c.is_empty.ensures, c.if-not-is_empty.false) (puts_none c.args.out.now)
 
-pub returns : goal.returns
-returns c =
-    let s = c.args.s.now in
-    rw (is_empty-not s (omega arith)) (c.bytes-end.ensures then c.byte.ensures)
+pub returns-then-not-is_empty : goal.returns-then-not-is_empty
+returns-then-not-is_empty c =
+    rw (sym (no_bytes c.args.s.now), sym c.is_empty.ensures, c.if-not-is_empty.true) (c.bytes.ensures then c.byte.ensures)

@@ -5,4 +5,4 @@ use Rattle.forms.proofs.point.Goals as goal
 pub returns : goal.returns
 unfolding written_point
 returns c =
-    c.percentage-comma.ensures then byte_then c.byte-y.ensures c.percentage.ensures
+    c.percentage.ensures then byte_then c.byte.ensures c.percentage-2.ensures

@@ -4,4 +4,4 @@ use Rattle.forms.proofs.region.Goals as goal
 
 pub returns : goal.returns
 returns c =
-    rw (join-region, ← c.part.ensures) (c.bytes-name.ensures then c.identifier-numbers.ensures then c.region_numbers.ensures)
+    rw (join-region, ← c.part.ensures) (c.bytes.ensures then c.identifier.ensures then c.region_numbers.ensures)

@@ -8,9 +8,9 @@ pub returns : goal.returns
 unfolding number_lines
 returns c =
     simp (ended_append, ended-setting)
-    (c.bytes-width.ensures
-    then c.percentage-after_width.ensures
-    then (c.bytes-lines.ensures then c.number-after_lines.ensures)
-    then (c.bytes-anchor.ensures then c.point-after_anchor.ensures)
-    then (c.bytes-viewport.ensures then c.point-after_viewport.ensures)
+    (c.bytes.ensures
+    then c.percentage.ensures
+    then (c.bytes-2.ensures then c.number.ensures)
+    then (c.bytes-3.ensures then c.point.ensures)
+    then (c.bytes-4.ensures then c.point-2.ensures)
     then c.scroll.ensures)

@@ -5,7 +5,7 @@ use Rattle.forms.proofs.scroll.Goals as goal
 
 pub returns-in-None : goal.returns-in-None
 unfolding written_scroll after_line_ends
-returns-in-None c = let args = c.args in rw c.in-None.is (puts_none args.at args.out.now)
+returns-in-None c = let args = c.args in rw c.in-None.is (puts_none args.out.now)
 
 pub returns-in-Up : goal.returns-in-Up
 unfolding written_scroll after_line_ends setting

@@ -15,4 +15,4 @@ returns c =
       ← ap (λ p. bytes_at args.text.now p.from p.to) c.text-place.ensures,
       ← c.part.ensures,
     )
-    (c.bytes-to.ensures then c.bytes.ensures)
+    (c.bytes.ensures then c.bytes-2.ensures)

@@ -7,7 +7,7 @@ use Rattle.forms.proofs.timing_line.Goals as goal
 pub returns : goal.returns
 unfolding timing_form
 returns c =
-    puts_as (ap written_time c.start.ensures) c.time-arrow.ensures
-    then c.bytes-end.ensures
-    then puts_as (ap written_time c.end.ensures) c.time-after.ensures
+    puts_as (ap written_time c.start.ensures) c.time.ensures
+    then c.bytes.ensures
+    then puts_as (ap written_time c.end.ensures) c.time-2.ensures
     then c.settings.ensures

@@ -1,21 +1,23 @@
-use Prim.Native.Nat.{◌-◌}
-use mathlib.Core.Path.{sym, ap, ◌∙◌}
-use mathlib.Core.Bool.{true≢false}
-use lib.ListN.{length, get_or}
+use Rattle.std.proofs.Common.{◌≡◌, false, true, ℕ, length, refl, sym, ap, ◌∙◌, ◌-◌, arith, Bor, nat_eq}
+use Rattle.std.specs.Prelude.{Option, None, Some, option_copied, slice_get}
+use Rattle.std.specs.Option.{option_eq}
 use borrow.Author.Tests.{eq-eqb}
+use mathlib.Core.Bool.{true≢false}
 use Rattle.lookup.proofs.NameLaws.{differ}
 use Rattle.lookup.proofs.ends_alike.Goals as goal
 
--- `lookup::ends_alike` meets its contract.
-pub returns-then-n-b : goal.returns-then-n-b
-returns-then-n-b c = let a = c.args in λ e. differ a.a.now a.b.now (λ p. c.if-n-b.true (ap length p))
+-- two references to one byte, or none
+same_last : (x y : Option (Bor ℕ)) → option_copied x ≡ option_copied y → option_eq (λ p q. nat_eq p.now q.now) x y ≡ true
+same_last None None e = refl
+same_last None (Some q) e = let z : ◌≡◌ {A = ℕ} 0 1 = cc in absurd (omega arith)
+same_last (Some p) None e = let z : ◌≡◌ {A = ℕ} 0 1 = cc in absurd (omega arith)
+same_last (Some p) (Some q) e = eq-eqb p.now q.now cc
 
-pub returns-then-n-eq0 : goal.returns-then-n-eq0
-returns-then-n-eq0 c = λ e. absurd (true≢false e)
+pub returns-then-a-b : goal.returns-then-a-b
+returns-then-a-b c =
+    λ e. differ _ _
+    (λ p. let last = c.last.ensures.value ∙ ap (λ s. slice_get s (length s - 1)) p ∙ sym c.last-then-a-b.ensures.value in
+    absurd (true≢false (sym (same_last _ _ last) ∙ sym c.eq.ensures ∙ e)))
 
-pub returns : goal.returns
-returns c =
-    let a = c.args in
-    let last = length a.a.now - 1 in
-    λ e. differ a.a.now a.b.now
-    (λ p. absurd (true≢false (sym (eq-eqb (get_or a.a.now last 0) (get_or a.b.now last 0) (ap (λ l. get_or l last 0) p)) ∙ e)))
+pub returns-else-a-b : goal.returns-else-a-b
+returns-else-a-b c = λ e. differ _ _ (λ p. c.if-a-b.false (ap length p))

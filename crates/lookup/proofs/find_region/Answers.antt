@@ -1,3 +1,4 @@
+use Rattle.std.specs.Prelude.{Some}
 use Prim.Native.Nat.{◌+◌, ◌-◌, ◌<◌}
 use mathlib.Core.Path.{◌≡◌, refl, sym, ap, ◌∙◌}
 use mathlib.Core.Bool.{cond}
@@ -8,7 +9,6 @@ use Rattle.format.specs.Texts.{same, bytes_at}
 use Rattle.format.specs.Contents.{region_of_entry}
 use Rattle.format.specs.Writable.{names_of}
 use Rattle.format.specs.LookingUp.{look_up}
-use Rattle.format.specs.declared.rows.RegionIndex.TheVariants as RegionIndex
 use Rattle.laws.proofs.LookingUp.{more, look_up-start, look_up_turn, look_up-end, look_up-last}
 use Rattle.lookup.proofs.NameLaws.{names_length, name_at_lem}
 use borrow.Author.Rules.{rules}
@@ -19,7 +19,7 @@ pub loop-i-init : goal.loop-i-init
 loop-i-init c =
     let a = c.args in
     let rows = a.regions.now in
-    (omega arith, sym (look_up-start a.name.now (names_of a.text.now rows) (length rows) (names_length a.text.now rows)))
+    sym (look_up-start a.name.now (names_of a.text.now rows) (length rows) (names_length a.text.now rows))
 
 -- the row is inside the table
 row_inside : (c : In-loop-i) → c.loop-i.i - 1 < length c.args.regions.now
@@ -39,7 +39,7 @@ turn :
     let n = length a.regions.now in
     let i = c.loop-i.i - 1 in
     look_up a.name.now names
-    ≡ cond c.is_named.result (record { index = RegionIndex.At i; seen = n - i }) (more (n - i) (look_up a.name.now (take i names)))
+    ≡ cond c.is_named.result (record { index = Some i; seen = n - i }) (more (n - i) (look_up a.name.now (take i names)))
 unfolding region_of_entry
 turn c =
     let a = c.args in
@@ -52,9 +52,9 @@ turn c =
     let own : same (get_or names i []) x ≡ c.is_named.result =
     ap (λ y. same y x) (name_at_lem s a.regions.now i)
     ∙ sym (c.is_named.ensures ∙ ap (λ p. same (bytes_at s p.from p.to) x) c.id.ensures) in
-    rw next at c.loop-i.invariant.1
+    rw next at c.loop-i.invariant
     ∙ look_up_turn x names n (names_length s a.regions.now) i (omega arith)
-    ∙ ap (λ t. cond t (record { index = RegionIndex.At i; seen = n - i }) (more (n - i) (look_up x (take i names)))) own
+    ∙ ap (λ t. cond t (record { index = Some i; seen = n - i }) (more (n - i) (look_up x (take i names)))) own
 
 pub returns-then-is_named : goal.returns-then-is_named
 returns-then-is_named c =
@@ -67,7 +67,7 @@ returns-then-is_named c =
     }
 
 pub loop-i-preserved : goal.loop-i-preserved
-loop-i-preserved c = (omega arith, turn (goal.at.loop-i-preserved c).After-is_named ∙ rw c.if-is_named.false refl)
+loop-i-preserved c = turn (goal.at.loop-i-preserved c).After-is_named ∙ rw c.if-is_named.false refl
 
 pub returns : goal.returns
 returns c =
@@ -75,7 +75,7 @@ returns c =
     let names = names_of a.text.now a.regions.now in
     let n = length a.regions.now in
     let z : c.loop-i.i ≡ 0 = omega arith in
-    let found = rw z at c.loop-i.invariant.1 ∙ look_up-end a.name.now names n (names_length a.text.now a.regions.now) in
+    let found = rw z at c.loop-i.invariant ∙ look_up-end a.name.now names n (names_length a.text.now a.regions.now) in
     record {
       found = sym found;
       last = rw found at (look_up-last a.name.now names);

@@ -1,15 +1,10 @@
-use Prim.Native.Nat.{◌-◌, ◌≤◌}
-use mathlib.Core.Path.{◌≡◌}
-use lib.ListN.{take}
+use Rattle.std.proofs.Common.{◌≡◌, ◌-◌, take}
 use Rattle.format.specs.Writable.{names_of}
 use Rattle.format.specs.LookingUp.{look_up}
 use Rattle.laws.proofs.LookingUp.{more}
 use Rattle.lookup.proofs.find_region.Given as goal
 
--- `lookup::find_region` meets its contract: the records from i on have another name, and were seen.
+-- the records from i on have another name, and were seen
 abbrev pub invariant-loop-i : goal.invariant-loop-i
 invariant-loop-i l =
-    (l.i ≤ l.count) × (look_up l.name (names_of l.text l.regions) ≡ more (l.count - l.i) (look_up l.name (take l.i (names_of l.text l.regions))))
-
-abbrev pub decreases-loop-i : goal.decreases-loop-i
-decreases-loop-i l = l.i
+    look_up l.name (names_of l.text l.regions) ≡ more (l.count - l.i) (look_up l.name (take l.i (names_of l.text l.regions)))

@@ -6,14 +6,15 @@ ghost use Rattle.format.specs.Answers.{placed};
 ghost use Rattle.format.specs.CueText.{cue_tokens};
 ghost use Rattle.format.specs.Trees.{kind_word, any_time_over, nodes, node_strings, node_words, node_rows};
 ghost use Rattle.tokenizer.specs.Tags.{token_is, PartsIn};
-ghost use Rattle.nodes.specs.Tokens.{kind_is, token_classes, made_is};
+ghost use Rattle.nodes.specs.Tokens.{token_classes, made_is};
 ghost use Rattle.node_rows.specs.Rows.{up_in, kind_in, left_in, node_below, Puts, Turned, Fits};
 
+use format::OverLimit;
 use format::kinds::NodeKind;
 use format::rows::{NODE_KIND, NODE_PARENT, NodeRow};
 use nodes::inner::tokens::{Made, left_kind, node_of, put_classes, put_value};
-use nodes::kinds::{MaybeKind, is_kind, kind_numbered, kind_word, same_kind};
-use tokenizer::{Stepped, Token};
+use nodes::kinds::{is_kind, kind_numbered};
+use tokenizer::Token;
 
 // How far the table and the room are filled, and the current node: 0 for the root, else its index and one.
 #[derive(Clone, Copy)]
@@ -38,69 +39,55 @@ fn up(rows: &[NodeRow], node: usize) -> usize
 }
 
 // The kind of a node, by its row.
-fn kind_of(rows: &[NodeRow], node: usize) -> MaybeKind
-    ensures { kind_is result ≡ kind_in rows.now node }
+fn kind_of(rows: &[NodeRow], node: usize) -> Option<NodeKind>
+    ensures { result ≡ kind_in rows.now node }
 {
     if node == 0 {
-        return MaybeKind::None;
+        return None;
     }
     if rows.len() < node {
-        return MaybeKind::None;
+        return None;
     }
     let row = rows[node - 1];
-    MaybeKind::Is(kind_numbered(row[NODE_KIND]))
+    Some(kind_numbered(row[NODE_KIND]))
 }
 
 // The current node after an end tag. `</ruby>` inside a ruby text leaves both.
-fn leave(rows: &[NodeRow], node: usize, named: MaybeKind) -> usize
-    ensures { result ≡ left_in rows.now node (kind_is named) }
+fn leave(rows: &[NodeRow], node: usize, named: Option<NodeKind>) -> usize
+    ensures { result ≡ left_in rows.now node named }
 {
-    let own = kind_of(rows, node);
-    let MaybeKind::Is(kind) = own else {
+    let Some(kind) = kind_of(rows, node) else {
         return node;
     };
     let parent = up(rows, node);
     if is_kind(named, kind) {
         return parent;
     }
-    if !is_kind(named, NodeKind::Ruby) {
-        return node;
+    if is_kind(named, NodeKind::Ruby) && is_kind(Some(kind), NodeKind::RubyText) {
+        return up(rows, parent);
     }
-    if !same_kind(kind, NodeKind::RubyText) {
-        return node;
-    }
-    up(rows, parent)
+    node
 }
 
 // The words of a place: an empty string is 0, 0.
 fn place(from: usize, to: usize, at: usize) -> u64
     ensures { result ≡ cond (eqb from to) 0 at }
 {
-    if from == to {
-        return 0;
-    }
-    at as u64
+    if from == to { 0 } else { at as u64 }
 }
 
 // The row of a node whose classes stand up to the place where its value starts.
-fn row_of(
-    parent: usize,
-    kind: NodeKind,
-    from: usize,
-    between: usize,
-    to: usize,
-    time: u64,
-) -> NodeRow
-    ensures { (classes value : List ℕ) → between ≡ from + length classes → to ≡ between + length value → result ≡ node_words from (node_below parent kind classes value time) }
+fn row_of(parent: usize, made: Made, from: usize, between: usize, to: usize) -> NodeRow
+    ensures { (classes value : List ℕ) → between ≡ from + length classes → to ≡ between + length value → result ≡ node_words from (node_below parent made classes value) }
 {
     [
         parent as u64,
-        kind_word(kind),
+        u64::from(made.kind),
         place(from, between, from),
         place(from, between, between),
         place(between, to, between),
         place(between, to, to),
-        time,
+        made.time,
     ]
 }
 
@@ -108,34 +95,30 @@ fn row_of(
 fn entered(current: usize, kind: NodeKind, node: usize) -> usize
     ensures { result ≡ cond (ltb (kind_word kind) 8) node current }
 {
-    if kind_word(kind) < 8 {
-        return node;
-    }
-    current
+    if u64::from(kind) < 8 { node } else { current }
 }
 
 // The strings and the row of a token's node.
 fn put_node(
     text: &[u8],
     token: Token,
-    kind: NodeKind,
-    time: u64,
+    made: Made,
     filled: Filled,
     room: &mut [u8],
     rows: &mut [NodeRow],
 ) -> Filled
     requires { (PartsIn text.now 0 (length text.now) token) × (length text.now ≤ max_text) × (filled.used + length (token_classes (token_is text.now token)) ≤ max_text) × (filled.count < length rows.old) }
-    ensures { Puts (token_is text.now token) kind time filled room.old rows.old result room.new rows.new }
+    ensures { Puts (token_is text.now token) made filled room.old rows.old result room.new rows.new }
 {
     let from = filled.used;
     let between = put_classes(text, token, room, from);
-    let to = put_value(text, token, kind, room, between);
-    let count = filled.count;
-    rows[count] = row_of(filled.current, kind, from, between, to, time);
+    let to = put_value(text, token, made.kind, room, between);
+    rows[filled.count] = row_of(filled.current, made, from, between, to);
+    let count = filled.count + 1;
     Filled {
-        count: count + 1,
+        count,
         used: to,
-        current: entered(filled.current, kind, count + 1),
+        current: entered(filled.current, made.kind, count),
     }
 }
 
@@ -144,15 +127,13 @@ fn turn(text: &[u8], token: Token, filled: Filled, room: &mut [u8], rows: &mut [
     requires { (PartsIn text.now 0 (length text.now) token) × (length text.now ≤ max_text) × (Fits (made_is (kind_in rows.old filled.current) (token_is text.now token)) (token_is text.now token) filled rows.old) }
     ensures { Turned (made_is (kind_in rows.old filled.current) (token_is text.now token)) (token_is text.now token) filled room.old rows.old result room.new rows.new }
 {
-    let made = node_of(text, token, kind_of(rows, filled.current));
-    match made {
-        Made::None => Filled {
-            count: filled.count,
-            used: filled.used,
+    match node_of(text, token, kind_of(rows, filled.current)) {
+        Ok(Some(made)) => put_node(text, token, made, filled, room, rows),
+        Ok(None) => Filled {
             current: leave(rows, filled.current, left_kind(text, token)),
+            ..filled
         },
-        Made::Over => filled,
-        Made::Node { kind, time } => put_node(text, token, kind, time, filled, room, rows),
+        Err(OverLimit) => filled,
     }
 }
 
@@ -168,11 +149,10 @@ pub fn fill(text: &[u8], room: &mut [u8], rows: &mut [NodeRow])
         current: 0,
     };
     loop {
-        let step = tokenizer::token_at(text, at);
-        let Stepped::Next { token, next } = step else {
+        let Some(found) = tokenizer::token_at(text, at) else {
             return;
         };
-        filled = turn(text, token, filled, room, rows);
-        at = next;
+        filled = turn(text, found.token, filled, room, rows);
+        at = found.next;
     }
 }

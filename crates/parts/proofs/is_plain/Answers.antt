@@ -1,12 +1,19 @@
-use mathlib.Core.Path.{sym, ap, ◌∙◌}
-use Rattle.format.specs.Converting.{plainness_is}
+use Rattle.std.proofs.Common.{◌≡◌, ℕ, List, Bool, true, false, length, not, refl, sym, ◌∙◌}
+use Rattle.std.specs.Prelude.{Option, None, Some, is_some}
+use lib.Dec.{ltb}
+use Rattle.format.specs.Plain.{first_not_plain}
+use Rattle.format.specs.Converting.{plainness_is, testing}
 use Rattle.laws.proofs.Answers.{all_plain, not_plain}
 use Rattle.parts.proofs.is_plain.Goals as goal
 
-pub returns-in-Plain : goal.returns-in-Plain
-returns-in-Plain c =
-    rw (all_plain c.args.part.now (ap plainness_is (sym c.in-Plain.is) ∙ c.first_not_plain.ensures))
+-- there is a place that is not plain where the test refuses
+place_told : (s : List ℕ) (place : Option ℕ) → plainness_is place ≡ testing s → is_some place ≡ ltb (first_not_plain s) (length s)
+place_told s None e = sym (all_plain s e)
+place_told s (Some i) e = sym (not_plain s i e).0
 
-pub returns-in-NotPlainAt : goal.returns-in-NotPlainAt
-returns-in-NotPlainAt c =
-    rw (not_plain c.args.part.now c.in-NotPlainAt.field-0 (ap plainness_is (sym c.in-NotPlainAt.is) ∙ c.first_not_plain.ensures)).0
+turned : (a b : Bool) → a ≡ not b → b ≡ not a
+turned a true e = rw e refl
+turned a false e = rw e refl
+
+pub returns : goal.returns
+returns c = turned _ _ (sym (place_told _ _ c.first_not_plain.ensures) ∙ c.is_none.ensures)

@@ -3,7 +3,7 @@ use mathlib.Core.Path.{◌≡◌, sym, ◌∙◌}
 use native.Mathlib.Omega.{arith}
 use lib.ListN.{length, drop}
 use Rattle.format.specs.Plain.{first_not_plain}
-use Rattle.plain.proofs.PieceLaws.{plain_at_kept, plain_at_stays, plain_at_nul, plain_at_cr, plain_at_other, plain_at_end}
+use Rattle.plain.proofs.PieceLaws.{plain_at_stays, plain_at_piece, plain_at_no_piece, plain_at_end}
 use Rattle.plain.proofs.plain_len.Goals as goal
 use Rattle.plain.proofs.plain_len.Goals.{In-Keep}
 
@@ -12,23 +12,13 @@ loop-i-preserved-then-stays c =
     let s = c.args.s.now in
     omega (arith, plain_at_stays s c.loop-i.i (omega arith) (c.stays.ensures c.if-stays.true))
 
-pub returns-then-b-eq0 : goal.returns-then-b-eq0
-returns-then-b-eq0 c =
-    omega (arith, plain_at_nul c.args.s.now c.loop-i.i (omega arith) c.if-b-eq0.true)
-
-pub returns-then-b-eq13 : goal.returns-then-b-eq13
-returns-then-b-eq13 c =
-    omega (arith, plain_at_cr c.args.s.now c.loop-i.i (omega arith) c.if-b-eq13.true)
-
 -- a sequence stands at i: the text goes on after it
 passed :
     (c : In-Keep)
     → let s = c.args.s.now in
     let n = c.in-Keep.n in
     (0 < n) × (c.loop-i.i + n ≤ length s) × (first_not_plain (drop c.loop-i.i s) ≡ n + first_not_plain (drop (c.loop-i.i + n) s))
-passed c =
-    plain_at_kept c.args.s.now c.loop-i.i (omega arith) c.in-Keep.n c.if-b-eq0.false c.if-b-eq13.false
-    (sym c.in-Keep.is ∙ c.run_at.ensures)
+passed c = plain_at_piece c.args.s.now c.loop-i.i (omega arith) c.in-Keep.n (sym c.piece_at.ensures ∙ c.in-Keep.is)
 
 pub overflow_add-i-in-Keep : goal.overflow_add-i-in-Keep
 overflow_add-i-in-Keep c = omega (arith, passed (goal.at.overflow_add-i-in-Keep c).In-Keep)
@@ -43,8 +33,8 @@ pub returns-in_default : goal.returns-in_default
 returns-in_default c =
     omega (
       arith,
-      plain_at_other c.args.s.now c.loop-i.i (omega arith)
-          (λ n e. c.in_default.not-Keep n (c.run_at.ensures ∙ e)),
+      plain_at_no_piece c.args.s.now c.loop-i.i (omega arith)
+          (λ n e. c.in_default.not-Keep n (c.piece_at.ensures ∙ e)),
     )
 
 pub returns : goal.returns

@@ -12,7 +12,7 @@ use Rattle.values.specs.Tokens.{TokenHere}
 use Rattle.regions.specs.Changes.{step_is}
 use Rattle.regions.proofs.ChangeLaws.{fold_is}
 use Rattle.regions.proofs.read_region.Goals as goal
-use Rattle.regions.proofs.read_region.Goals.{In-At}
+use Rattle.regions.proofs.read_region.Goals.{In-Some}
 
 pub loop-at-init : goal.loop-at-init
 unfolding region_settings span_is is_empty
@@ -21,34 +21,34 @@ loop-at-init c =
     let whole = tokens args.from (drop args.from args.s.now) in
     (omega arith, rw c.opening.ensures (fold_is (unflagged opening_values) whole))
 
-pub returns-in_default : goal.returns-in_default
+pub returns : goal.returns
 unfolding stepped
-returns-in_default c =
+returns c =
     let s = c.args.s.now in
-    let none : tokens c.loop-at.i (drop c.loop-at.i s) ≡ [] = rw c.in_default.is at c.next_token-found.ensures in
+    let none : tokens c.loop-at.i (drop c.loop-at.i s) ≡ [] = rw c.in_default.is at c.next_token.ensures in
     sym (ap (stepped step_is c.loop-at.taken) none) ∙ c.loop-at.invariant.1
 
 -- the token that was found
 token :
-    (c : In-At)
-    → TokenHere c.args.s.now c.loop-at.i c.in-At.at c.in-At.to
-token c = rw c.in-At.is at c.next_token-found.ensures
+    (c : In-Some)
+    → TokenHere c.args.s.now c.loop-at.i c.in-Some.field-0.from c.in-Some.field-0.to
+token c = rw c.in-Some.is at c.next_token.ensures
 
 pub slice_bounds-step-end : goal.slice_bounds-step-end
 slice_bounds-step-end c =
     let s = c.args.s.now in
-    sym (length-take-le c.in-At.to s (token (goal.at.slice_bounds-step-end c).In-At).inside)
+    sym (length-take-le c.in-Some.field-0.to s (token (goal.at.slice_bounds-step-end c).In-Some).inside)
 
 pub step-taken-requires : goal.step-taken-requires
 step-taken-requires c =
     let s = c.args.s.now in
-    omega (arith, length-take-le c.in-At.to s (token (goal.at.step-taken-requires c).In-At).inside, (token (goal.at.step-taken-requires c).In-At).some)
+    omega (arith, length-take-le c.in-Some.field-0.to s (token (goal.at.step-taken-requires c).In-Some).inside, (token (goal.at.step-taken-requires c).In-Some).some)
 
 pub loop-at-smaller : goal.loop-at-smaller
-loop-at-smaller c = let t = token (goal.at.loop-at-smaller c).In-At in omega (arith, t.moves, t.inside)
+loop-at-smaller c = let t = token (goal.at.loop-at-smaller c).In-Some in omega (arith, t.moves, t.inside)
 
 pub loop-at-preserved : goal.loop-at-preserved
 unfolding stepped
 loop-at-preserved c =
-    let t = token (goal.at.loop-at-preserved c).In-At in
+    let t = token (goal.at.loop-at-preserved c).In-Some in
     (t.inside, rw c.step-taken.ensures (sym (ap (stepped step_is c.loop-at.taken) t.first) ∙ c.loop-at.invariant.1))

@@ -2,7 +2,6 @@ use native.Mathlib.Omega.{arith}
 use Rattle.values.proofs.NumberLaws.{empty_is, is_empty-not}
 use Rattle.replace.proofs.lacks_gap.Goals as goal
 
--- `replace::lacks_gap` meets its contract.
 pub returns-then-id-eq0 : goal.returns-then-id-eq0
 returns-then-id-eq0 c = rw (empty_is c.args.id.now c.if-id-eq0.true)
 

@@ -1,12 +1,13 @@
 use mathlib.Core.Path.{sym, ap, ◌∙◌}
 use mathlib.Core.List.{[]}
-use mathlib.Core.Option.{Option-elim}
+use Rattle.std.specs.Prelude.{option_map}
+use Rattle.std.specs.Option.{option_map_or}
 use borrow.Author.Tests.{not-true, not-false}
 use Rattle.format.specs.Bytes.{ascii}
 use Rattle.format.specs.Texts.{same}
 use Rattle.format.specs.Requests.{lent_text}
 use Rattle.output.specs.Puts.{room_with}
-use Rattle.requests.specs.Asked.{asked_is}
+use Rattle.requests.specs.Asked.{asking_for}
 use Rattle.requests.proofs.RequestLaws.{bad_is, count_bad, word_bad, fields_are}
 use Rattle.requests.proofs.read.Goals as goal
 
@@ -31,6 +32,6 @@ returns c =
     let word = ap (λ f. same f (ascii "mend")) (sym c.nth.ensures) ∙ there in
     let is = fields_are args.line.now (sym c.count.ensures ∙ c.if-count-ne7.false) word in
     record {
-      answer = c.read_fields.ensures.answer ∙ ap asked_is (sym is);
-      room = c.read_fields.ensures.room ∙ ap (λ o. room_with 0 (Option-elim o [] lent_text) args.room.now) (sym is);
+      answer = c.read_fields.ensures.answer ∙ ap (option_map asking_for) (sym is);
+      room = c.read_fields.ensures.room ∙ ap (λ o. room_with 0 (option_map_or lent_text o []) args.room.now) (sym is);
     }

@@ -1,4 +1,5 @@
 use mathlib.Core.Path.{sym, ap, ◌∙◌}
+use Rattle.std.specs.Prelude.{Some}
 use native.Mathlib.Omega.{arith}
 use lib.ListN.{length}
 use Rattle.format.specs.Fields.{fields}
@@ -6,15 +7,14 @@ use Rattle.format.specs.Requests.{settings_field}
 use Rattle.output.specs.Puts.{room_with}
 use Rattle.cue_settings.specs.declared.steps.CueTaken.{CueTaken}
 use Rattle.requests.specs.Asked.{field_of, asking_is}
-use Rattle.requests.specs.declared.Asked.TheVariants as Asked
 use Rattle.requests.proofs.RequestLaws.{bad_is, texts_bad, settings-over, asked_is_lem, text-is, asked-fits}
 use Rattle.requests.proofs.read_rest.Goals as goal
 
-pub returns-in_default : goal.returns-in_default
-returns-in_default c =
+pub returns-in_err-lengths : goal.returns-in_err-lengths
+returns-in_err-lengths c =
     let args = c.args in
-    let both = bad_is _ args.room.now (texts_bad (fields args.line.now) args.numbers (sym c.lengths_of.ensures ∙ c.in_default.is)) in
-    record { answer = both.0; room = both.1 }
+    let both = bad_is _ args.room.now (texts_bad (fields args.line.now) args.numbers (sym c.lengths_of.ensures ∙ c.in_err-lengths.was)) in
+    record { answer = c.from_residual.ensures ∙ both.0; room = both.1 }
 
 pub returns-then-taken : goal.returns-then-taken
 returns-then-taken c =
@@ -25,19 +25,19 @@ returns-then-taken c =
 
 pub asking_of-requires : goal.asking_of-requires
 asking_of-requires c =
-    let read = sym c.lengths_of.ensures ∙ c.in-Good.is in
+    let read = sym c.lengths_of.ensures ∙ c.in_ok-lengths.was in
     let line = c.args.line.now in
-    omega (arith, asked-fits line c.in-Good.lengths read, ap length c.name_of-name.ensures)
+    omega (arith, asked-fits line c.in_ok-lengths.lengths read, ap length c.name_of-name.ensures)
 
 pub returns : goal.returns
 returns c =
-    let l = c.in-Good.lengths in
-    let read = sym c.lengths_of.ensures ∙ c.in-Good.is in
+    let l = c.in_ok-lengths.lengths in
+    let read = sym c.lengths_of.ensures ∙ c.in_ok-lengths.was in
     let args = c.args in
     let line = args.line.now in
     let under = ap (λ (t : CueTaken). t.over) (sym c.settings_of-taken.ensures) ∙ c.if-taken.false in
     record {
-      answer = ap Asked.Cue
+      answer = ap Some
           (c.asking_of.ensures
           ∙ ap (λ (t : CueTaken). asking_is args.numbers t.settings l (length c.name_of-name.result.now)) c.settings_of-taken.ensures
           ∙ ap (λ x. asking_is args.numbers (settings_field (field_of line 5)).value.settings l (length x)) c.name_of-name.ensures)

@@ -8,7 +8,7 @@ returns-in-Start c = rw c.in-Start.is c.bytes.ensures
 
 pub returns-in-Center : goal.returns-in-Center
 unfolding after_spaces setting written_align
-returns-in-Center c = rw c.in-Center.is (puts_none _ _)
+returns-in-Center c = rw c.in-Center.is (puts_none _)
 
 pub returns-in-End : goal.returns-in-End
 unfolding after_spaces setting written_align

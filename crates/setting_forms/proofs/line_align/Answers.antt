@@ -4,7 +4,7 @@ use Rattle.setting_forms.proofs.line_align.Goals as goal
 
 pub returns-in-Start : goal.returns-in-Start
 unfolding written_line_align
-returns-in-Start c = rw c.in-Start.is (puts_none _ _)
+returns-in-Start c = rw c.in-Start.is (puts_none _)
 
 pub returns-in-Center : goal.returns-in-Center
 unfolding written_line_align

@@ -9,4 +9,4 @@ returns-then-not-snap c = rw (c.if-not-snap.true) c.percentage.ensures
 pub returns : goal.returns
 unfolding written_line_number
 returns c =
-    rw (c.if-not-snap.false) (c.sign-number.ensures then c.decimal.ensures)
+    rw (c.if-not-snap.false) (c.sign.ensures then c.decimal.ensures)

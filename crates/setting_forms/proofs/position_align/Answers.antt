@@ -4,7 +4,7 @@ use Rattle.setting_forms.proofs.position_align.Goals as goal
 
 pub returns-in-Auto : goal.returns-in-Auto
 unfolding written_position_align
-returns-in-Auto c = rw c.in-Auto.is (puts_none _ _)
+returns-in-Auto c = rw c.in-Auto.is (puts_none _)
 
 pub returns-in-LineLeft : goal.returns-in-LineLeft
 unfolding written_position_align

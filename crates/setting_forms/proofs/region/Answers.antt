@@ -5,12 +5,10 @@ use Rattle.setting_forms.specs.Settings.{named_region}
 use Rattle.setting_forms.proofs.SettingLaws.{puts_setting}
 use Rattle.setting_forms.proofs.region.Goals as goal
 
-pub returns-then-not-asks : goal.returns-then-not-asks
+pub returns-in_default : goal.returns-in_default
 unfolding after_spaces named_region
-returns-then-not-asks c = rw (c.if-not-asks.true) (puts_none _ _)
+returns-in_default c = rw c.in_default.is (puts_none _)
 
-pub returns : goal.returns
+pub returns-in-Some : goal.returns-in-Some
 unfolding named_region
-returns c =
-    rw (c.if-not-asks.false)
-    (puts_setting (ascii "region") c.bytes-to.ensures c.bytes.ensures)
+returns-in-Some c = rw c.in-Some.is (puts_setting (ascii "region") c.bytes.ensures c.bytes-in-Some.ensures)

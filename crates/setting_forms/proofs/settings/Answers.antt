@@ -8,9 +8,9 @@ pub returns : goal.returns
 unfolding settings_form written_five
 returns c =
     simp spaces_append
-    (spaced written_vertical c.vertical.ensures c.vertical-lines.ensures
-    then spaced written_line c.line.ensures c.line-across.ensures
-    then spaced written_position c.position.ensures c.position-wide.ensures
-    then spaced written_size c.size.ensures c.size-aligned.ensures
-    then spaced written_align c.align.ensures c.align-within.ensures
+    (spaced written_vertical c.vertical.ensures c.vertical-2.ensures
+    then spaced written_line c.line.ensures c.line-2.ensures
+    then spaced written_position c.position.ensures c.position-2.ensures
+    then spaced written_size c.size.ensures c.size-2.ensures
+    then spaced written_align c.align.ensures c.align-2.ensures
     then c.region.ensures)

@@ -5,12 +5,12 @@ use Rattle.setting_forms.proofs.SettingLaws.{puts_setting}
 use borrow.Author.Tests.{ne_eqb, eq-eqb}
 use Rattle.setting_forms.proofs.size.Goals as goal
 
-pub returns-then-millionths-eq100000000 : goal.returns-then-millionths-eq100000000
+pub returns-else-millionths-ne100000000 : goal.returns-else-millionths-ne100000000
 unfolding after_spaces written_size
-returns-then-millionths-eq100000000 c = rw (eq-eqb _ _ c.if-millionths-eq100000000.true) (puts_none _ _)
+returns-else-millionths-ne100000000 c = rw (eq-eqb _ _ c.if-millionths-ne100000000.false) (puts_none _)
 
-pub returns : goal.returns
+pub returns-then-millionths-ne100000000 : goal.returns-then-millionths-ne100000000
 unfolding written_size
-returns c =
-    rw (ne_eqb _ _ c.if-millionths-eq100000000.false)
-    (puts_setting (ascii "size") c.bytes-number.ensures c.percentage.ensures)
+returns-then-millionths-ne100000000 c =
+    rw (ne_eqb _ _ c.if-millionths-ne100000000.true)
+    (puts_setting (ascii "size") c.bytes.ensures c.percentage.ensures)

@@ -4,7 +4,7 @@ use Rattle.setting_forms.proofs.vertical.Goals as goal
 
 pub returns-in-Horizontal : goal.returns-in-Horizontal
 unfolding after_spaces setting written_vertical
-returns-in-Horizontal c = rw c.in-Horizontal.is (puts_none _ _)
+returns-in-Horizontal c = rw c.in-Horizontal.is (puts_none _)
 
 pub returns-in-Rl : goal.returns-in-Rl
 unfolding after_spaces setting written_vertical

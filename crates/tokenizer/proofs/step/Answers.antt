@@ -1,9 +1,8 @@
 use Prim.Native.Nat.{◌+◌}
-use mathlib.Core.Path.{◌≡◌, sym, ap, ◌∙◌}
+use mathlib.Core.Path.{◌≡◌, ap, sym, ◌∙◌}
 use lib.ListN.{length}
 use borrow.Author.Tests.{lt-ltb, le-ltb}
-use Rattle.tokenizer.specs.Tags.{after_tag}
-use Rattle.tokenizer.specs.declared.Stepped.TheVariants as Stepped
+use Rattle.tokenizer.specs.Tags.{after_tag, stepped}
 use Rattle.tokenizer.proofs.Spans.{tag_bounds, step_none, step_string, step_tag}
 use Rattle.tokenizer.proofs.step.Goals as goal
 
@@ -23,18 +22,14 @@ pub returns-then-to-text : goal.returns-then-to-text
 returns-then-to-text c =
     let s = c.args.text.now in
     let to = c.past-to-2.result in
-    let inside = c.if-text-at.false in
-    let opens = c.if-text-at-ne60.false in
-    let token = c.tag-token.result in
     let next : after_tag s to ≡ to + 1 = rw (lt-ltb to (length s) c.if-to-text.true) in
-    ap (Stepped.Next token) (sym next) ∙ step_tag s c.args.at inside opens to c.past-to-2.ensures token c.tag-token.ensures
+    ap (stepped c.tag-token.result) (sym next)
+    ∙ step_tag s c.args.at c.if-text-at.false c.if-text-at-ne60.false to c.past-to-2.ensures c.tag-token.result c.tag-token.ensures
 
-pub returns : goal.returns
-returns c =
+pub returns-else-to-text : goal.returns-else-to-text
+returns-else-to-text c =
     let s = c.args.text.now in
     let to = c.past-to-2.result in
-    let inside = c.if-text-at.false in
-    let opens = c.if-text-at-ne60.false in
-    let token = c.tag-token.result in
     let next : after_tag s to ≡ to = rw (le-ltb to (length s) c.if-to-text.false) in
-    ap (Stepped.Next token) (sym next) ∙ step_tag s c.args.at inside opens to c.past-to-2.ensures token c.tag-token.ensures
+    ap (stepped c.tag-token.result) (sym next)
+    ∙ step_tag s c.args.at c.if-text-at.false c.if-text-at-ne60.false to c.past-to-2.ensures c.tag-token.result c.tag-token.ensures

@@ -1,33 +1,31 @@
 use mathlib.Core.Path.{refl, sym, ◌∙◌}
+use native.Mathlib.Omega.{arith}
 use Rattle.format.specs.Writable.{names_of, cue_fails}
 use Rattle.lookup.proofs.KnownLaws.{last_none}
-use Rattle.writable.proofs.FaultLaws.{first-stop, first_next, first_end_lem, cue-counted}
+use Rattle.writable.proofs.FaultLaws.{first-stop, first_next, first_end_lem}
 use Rattle.writable.proofs.first_cue.Goals as goal
 
-pub loop-i-init : goal.loop-i-init
-loop-i-init c = let a = c.args in (refl, refl, last_none (names_of a.text.now a.regions.now) 256)
+pub loop-index-init : goal.loop-index-init
+loop-index-init c = let a = c.args in (refl, refl, last_none (names_of a.text.now a.regions.now) 256)
 
 pub slice_bounds-cue_test-end : goal.slice_bounds-cue_test-end
-slice_bounds-cue_test-end c = sym c.loop-i.invariant.1
+slice_bounds-cue_test-end c = sym c.loop-index.invariant.1
 
-pub cue_test-test-requires : goal.cue_test-test-requires
-cue_test-test-requires c = record { known_len = c.loop-i.invariant.1; all_last = c.loop-i.invariant.2 }
+pub cue_test-requires : goal.cue_test-requires
+cue_test-requires c = record { known_len = c.loop-index.invariant.1; all_last = c.loop-index.invariant.2 }
 
-pub returns-then-test-ne0 : goal.returns-then-test-ne0
-returns-then-test-ne0 c =
+pub returns-in-Some : goal.returns-in-Some
+returns-in-Some c =
     let a = c.args in
-    first-stop 2 (cue_fails a.text.now a.regions.now) a.cues.now c.loop-i.i c.cue_test-test.result
-    c.loop-i.invariant.0 c.loop-i-test.true c.cue_test-test.ensures.answer c.if-test-ne0.true
+    first-stop 2 (cue_fails a.text.now a.regions.now) a.cues.now c.loop-index.index c.in-Some.test c.loop-index.invariant.0 (omega arith) (sym c.in-Some.is ∙ c.cue_test.ensures.answer)
 
-pub loop-i-preserved : goal.loop-i-preserved
-loop-i-preserved c =
+pub loop-index-preserved : goal.loop-index-preserved
+loop-index-preserved c =
     let a = c.args in
-    let next =
-    first_next 2 (cue_fails a.text.now a.regions.now) a.cues.now c.loop-i.i c.cue_test-test.result
-    c.loop-i.invariant.0 c.loop-i-test.true (cue-counted a.text.now a.regions.now) c.cue_test-test.ensures.answer c.if-test-ne0.false in
-    (next, c.cue_test-test.auto.known ∙ c.loop-i.invariant.1, c.cue_test-test.ensures.known)
+    let next = first_next 2 (cue_fails a.text.now a.regions.now) a.cues.now c.loop-index.index c.loop-index.invariant.0 (omega arith) (sym c.in_default.is ∙ c.cue_test.ensures.answer) in
+    (next, c.cue_test.auto.known ∙ c.loop-index.invariant.1, c.cue_test.ensures.known)
 
 pub returns : goal.returns
 returns c =
     let a = c.args in
-    first_end_lem 2 (cue_fails a.text.now a.regions.now) a.cues.now c.loop-i.i c.loop-i.invariant.0 c.loop-i-test.false
+    first_end_lem 2 (cue_fails a.text.now a.regions.now) a.cues.now c.loop-index.index c.loop-index.invariant.0 (omega arith)

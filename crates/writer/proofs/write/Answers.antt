@@ -1,40 +1,33 @@
-use Rattle.format.specs.Writing.{writing_is}
-use Rattle.writer.proofs.WriteLaws.{promised, not_writable, too_long_lem, too_short, fits}
+use mathlib.Core.Path.{◌≡◌, sym}
+use borrow.Author.Rules.{rules}
+use Rattle.std.specs.Prelude.{Err}
+use Rattle.format.specs.Writing.{file_of}
+use Rattle.format.specs.declared.errors.WriteError.TheVariants as WriteError
+use Rattle.writer.proofs.WriteLaws.{refused_by, made, not_made}
 use Rattle.writer.proofs.write.Goals as goal
 
-pub returns-in-NotWritable : goal.returns-in-NotWritable
-unfolding writing_is
-returns-in-NotWritable c =
+pub returns-in_err-check : goal.returns-in_err-check
+returns-in_err-check c =
     let args = c.args in
-    let both = promised args.text.now args.styles.now args.regions.now args.cues.now args.out.now
-    (not_writable args.text.now args.styles.now args.regions.now args.cues.now args.out.now
-    c.check.ensures c.in-NotWritable.is) in
-    record { answer = both.0; out = both.1.0; back = both.1.1 }
+    let is : c.from_residual.result ≡ Err (WriteError.NotWritable c.in_err-check.field-0.0) = search rules in
+    let p = refused_by args.text.now args.styles.now args.regions.now args.cues.now args.out.now c.check.ensures c.in_err-check.was in
+    let q = rw (sym is) at p in
+    record { answer = q.answer; out = q.out; back = q.back }
 
-pub returns-then-need-gt-MAX_FILE : goal.returns-then-need-gt-MAX_FILE
-unfolding writing_is
-returns-then-need-gt-MAX_FILE c =
+pub returns-in_err-make_file : goal.returns-in_err-make_file
+returns-in_err-make_file c =
     let args = c.args in
-    let both = promised args.text.now args.styles.now args.regions.now args.cues.now args.out.now
-    (too_long_lem args.text.now args.styles.now args.regions.now args.cues.now args.out.now
-    c.check.ensures c.in_default.is c.put_file-need.ensures c.if-need-gt-MAX_FILE.true) in
-    record { answer = both.0; out = both.1.0; back = both.1.1 }
-
-pub returns-then-out-need : goal.returns-then-out-need
-unfolding writing_is
-returns-then-out-need c =
-    let args = c.args in
-    let both = promised args.text.now args.styles.now args.regions.now args.cues.now args.out.now
-    (too_short args.text.now args.styles.now args.regions.now args.cues.now args.out.now
-    c.check.ensures c.in_default.is c.put_file-need.ensures c.if-need-gt-MAX_FILE.false c.if-out-need.true) in
-    record { answer = both.0; out = both.1.0; back = both.1.1 }
+    let file = file_of args.text.now args.styles.now args.regions.now args.cues.now in
+    let is : c.from_residual-in_err-make_file.result ≡ Err (WriteError.Out c.in_err-make_file.field-0.0) = search rules in
+    let m = rw c.in_err-make_file.was at (c.make_file.ensures file (λ a b put. put)) in
+    let p = not_made args.text.now args.styles.now args.regions.now args.cues.now args.out.now c.check.ensures c.in_ok-check.was m in
+    let q = rw (sym is) at p in
+    record { answer = q.answer; out = q.out; back = q.back }
 
 pub returns : goal.returns
-unfolding writing_is
 returns c =
     let args = c.args in
-    let both = promised args.text.now args.styles.now args.regions.now args.cues.now args.out.now
-    (fits args.text.now args.styles.now args.regions.now args.cues.now args.out.now
-    c.check.ensures c.in_default.is c.put_file-need.ensures c.if-need-gt-MAX_FILE.false c.if-out-need.false
-    c.put_file.ensures) in
-    record { answer = both.0; out = both.1.0; back = both.1.1 }
+    let file = file_of args.text.now args.styles.now args.regions.now args.cues.now in
+    let m = rw c.in_ok-make_file.was at (c.make_file.ensures file (λ a b put. put)) in
+    let p = made args.text.now args.styles.now args.regions.now args.cues.now args.out.now c.check.ensures c.in_ok-check.was m in
+    record { answer = p.answer; out = p.out; back = p.back }

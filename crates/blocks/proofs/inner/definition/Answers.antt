@@ -8,10 +8,6 @@ use Rattle.blocks.specs.declared.items.Item.TheVariants as Read
 use Rattle.blocks.proofs.ItemLaws.{part_of_lem, span_part, region_is_lem}
 use Rattle.blocks.proofs.inner.definition.Goals as goal
 
--- `blocks::inner::definition` meets its contract.
-pub returns-then-seen : goal.returns-then-seen
-returns-then-seen c = rw c.if-seen.true
-
 pub returns-then-is_word : goal.returns-then-is_word
 returns-then-is_word c =
     let a = c.args in
@@ -26,7 +22,3 @@ returns-then-is_word-2 c =
     ∙ ap (λ p. region_item (taken_is (region_settings p))) (part_of_lem a.s.now (a.first + 1) a.to (omega arith) (omega arith))
     ∙ region_is_lem (region_settings (part a.s.now (a.first + 1) a.to))
     ∙ rw (c.if-seen.false, sym c.is_word.ensures ∙ c.if-is_word.false, sym c.is_word-2.ensures ∙ c.if-is_word-2.true)
-
-pub returns : goal.returns
-returns c =
-    rw (c.if-seen.false, sym c.is_word.ensures ∙ c.if-is_word.false, sym c.is_word-2.ensures ∙ c.if-is_word-2.false)

@@ -18,7 +18,7 @@ pub returns-then-first-to : goal.returns-then-first-to
 unfolding meaning_at
 returns-then-first-to c =
     let a = c.args in
-    rw (not-true a.stop.head.timed c.if-not-head.true, eq-eqb a.stop.head.first a.stop.to c.if-first-to.true)
+    rw (not-true a.block.stop.head.timed c.if-not-head.true, eq-eqb a.block.stop.head.first a.block.stop.to c.if-first-to.true)
 
 pub returns-then-not-head : goal.returns-then-not-head
 unfolding meaning_at
@@ -27,8 +27,8 @@ returns-then-not-head c =
     c.kind.ensures
     ∙ rw (
       c.definition.ensures,
-      not-true a.stop.head.timed c.if-not-head.true,
-      ne_eqb a.stop.head.first a.stop.to c.if-first-to.false,
+      not-true a.block.stop.head.timed c.if-not-head.true,
+      ne_eqb a.block.stop.head.first a.block.stop.to c.if-first-to.false,
     )
 
 pub returns-then-first-end : goal.returns-then-first-end
@@ -36,13 +36,13 @@ unfolding meaning_at
 returns-then-first-end c =
     let a = c.args in
     let s = a.s.now in
-    let head = a.stop.head in
-    let line = part s a.from head.end in
+    let head = a.block.stop.head in
+    let line = part s a.block.from head.end in
     let id = empty_part in
-    let text = after_line_end s head.end a.stop.to in
+    let text = after_line_end s head.end a.block.stop.to in
     c.timed_kind.ensures
     ∙ rw (
-      part_of_lem s a.from head.end (omega arith) (omega arith),
+      part_of_lem s a.block.from head.end (omega arith) (omega arith),
       not-false head.timed c.if-not-head.false,
       eq-eqb head.first head.end c.if-first-end.true,
     )
@@ -53,11 +53,11 @@ unfolding meaning_at
 returns c =
     let a = c.args in
     let s = a.s.now in
-    let head = a.stop.head in
+    let head = a.block.stop.head in
     let apart = c.if-first-end.false in
     let line = part s (head.first + 1) head.end in
-    let id = part s a.from head.first in
-    let text = after_line_end s head.end a.stop.to in
+    let id = part s a.block.from head.first in
+    let text = after_line_end s head.end a.block.stop.to in
     c.timed_kind-2.ensures
     ∙ rw (
       part_of_lem s (head.first + 1) head.end (omega (arith, apart)) (omega arith),

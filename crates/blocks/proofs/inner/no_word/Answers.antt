@@ -1,5 +1,3 @@
-use mathlib.Core.Bool.{true≢false}
-use mathlib.Core.Path.{sym}
 use native.Mathlib.Omega.{arith}
 use lib.Dec.{eqb}
 use lib.ListN.{get_or}
@@ -7,11 +5,8 @@ use borrow.Author.Tests.{eqb-false, not-true}
 use Rattle.blocks.proofs.NothingLaws.{other_word}
 use Rattle.blocks.proofs.inner.no_word.Goals as goal
 
-pub returns-then-b-eq83 : goal.returns-then-b-eq83
-returns-then-b-eq83 c = λ e. absurd (true≢false (sym e))
-
-pub returns : goal.returns
-returns c =
+pub returns-then-s-from-ne83 : goal.returns-then-s-from-ne83
+returns-then-s-from-ne83 c =
     let a = c.args in
     let b = get_or a.s.now a.from 0 in
-    λ e. other_word a.s.now a.from a.first (omega arith) (omega arith) c.if-b-eq83.false (eqb-false b 0x52 (not-true (eqb b 0x52) e))
+    λ e. other_word a.s.now a.from a.first (omega arith) (omega arith) c.if-s-from-ne83.true (eqb-false b 0x52 (not-true (eqb b 0x52) e))

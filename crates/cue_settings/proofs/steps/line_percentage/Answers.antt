@@ -1,11 +1,7 @@
-use Rattle.values.proofs.NumberLaws.{percentage-told}
 use mathlib.Core.Path.{sym, ◌∙◌}
 use Rattle.format.specs.CueSettings.{line_at_percentage}
 use Rattle.cue_settings.proofs.steps.line_percentage.Goals as goal
 
-pub returns-in-Bad : goal.returns-in-Bad
-returns-in-Bad c = rw (percentage-told, sym c.read_percentage.ensures ∙ c.in-Bad.is)
-
-pub returns-in-Good : goal.returns-in-Good
+pub returns-in-Some : goal.returns-in-Some
 unfolding line_at_percentage
-returns-in-Good c = rw (percentage-told, sym c.read_percentage.ensures ∙ c.in-Good.is)
+returns-in-Some c = rw (sym c.read_percentage.ensures ∙ c.in-Some.is)

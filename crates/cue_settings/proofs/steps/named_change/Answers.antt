@@ -1,24 +1,19 @@
-use mathlib.Core.Path.{sym, ◌∙◌}
-use Rattle.cue_settings.proofs.SettingLaws.{name-told}
+use Rattle.std.proofs.Common.{rules}
+use native.Mathlib.Omega.{arith}
+use Rattle.format.specs.Bytes.{ascii}
+use Rattle.format.specs.CueSettings.{named}
+use Rattle.format.specs.Texts.{same}
+use Rattle.values.proofs.WordLaws.{named as named_so}
 use Rattle.cue_settings.proofs.steps.named_change.Goals as goal
 
-pub returns-in-Region : goal.returns-in-Region
-returns-in-Region c = rw (name-told, sym c.cue_name.ensures ∙ c.in-Region.is)
+pub returns-in-region : goal.returns-in-region
+unfolding named same
+returns-in-region c = rw (named_so c.args.name.now (ascii "region") (omega arith) (search rules))
 
-pub returns-in-Vertical : goal.returns-in-Vertical
-returns-in-Vertical c = rw (name-told, sym c.cue_name.ensures ∙ c.in-Vertical.is, c.direction_of.ensures)
+pub returns-in-vertical : goal.returns-in-vertical
+unfolding named same
+returns-in-vertical c = rw (named_so c.args.name.now (ascii "vertical") (omega arith) (search rules), c.direction_of.ensures)
 
-pub returns-in-Line : goal.returns-in-Line
-returns-in-Line c = rw (name-told, sym c.cue_name.ensures ∙ c.in-Line.is) c.line_change.ensures
-
-pub returns-in-Position : goal.returns-in-Position
-returns-in-Position c = rw (name-told, sym c.cue_name.ensures ∙ c.in-Position.is) c.position_change.ensures
-
-pub returns-in-Size : goal.returns-in-Size
-returns-in-Size c = rw (name-told, sym c.cue_name.ensures ∙ c.in-Size.is) c.size_change.ensures
-
-pub returns-in-Align : goal.returns-in-Align
-returns-in-Align c = rw (name-told, sym c.cue_name.ensures ∙ c.in-Align.is, c.align_of.ensures)
-
-pub returns-in-Other : goal.returns-in-Other
-returns-in-Other c = rw (name-told, sym c.cue_name.ensures ∙ c.in-Other.is)
+pub returns-in-position : goal.returns-in-position
+unfolding named same
+returns-in-position c = rw (named_so c.args.name.now (ascii "position") (omega arith) (search rules)) c.position_change.ensures

@@ -2,7 +2,7 @@ use mathlib.Core.Path.{◌≡◌, sym, ap, ◌∙◌}
 use mathlib.Core.List.{[]}
 use lib.ListN.{length, get_or}
 use Rattle.format.specs.Texts.{bytes_at}
-use Rattle.format.specs.Contents.{option_of, region_of_entry}
+use Rattle.format.specs.Contents.{region_of_entry}
 use Rattle.format.specs.Writable.{names_of, is_index, last_of_its_name}
 use Rattle.format.specs.LookingUp.{look_up}
 use Rattle.lookup.proofs.NameLaws.{name_at, no_region_lem, no_name, last-is}
@@ -23,7 +23,7 @@ name-is c =
 answer :
     (c : After-find_region-found) (from_name_is : let a = c.args in c.part-name.result.now ≡ name_at a.text.now (get_or a.regions.now a.index []))
     → let a = c.args in
-    is_index (option_of c.find_region-found.result.index) a.index ≡ last_of_its_name (names_of a.text.now a.regions.now) a.index
+    is_index (c.find_region-found.result.index) a.index ≡ last_of_its_name (names_of a.text.now a.regions.now) a.index
 answer c from_name_is =
     let a = c.args in
     let names = names_of a.text.now a.regions.now in
@@ -45,9 +45,9 @@ returns-then-name-eq0 c =
     no_name a.text.now a.regions.now a.index c.if-regions-index.false (sym (ap length (name-is (goal.at.returns-then-name-eq0 c).After-part-name)) ∙ c.if-name-eq0.true)
 
 pub returns-in-None : goal.returns-in-None
-unfolding option_of is_index
+unfolding is_index
 returns-in-None c = rw c.in-None.is at (answer (goal.at.returns-in-None c).After-find_region-found (name-is (goal.at.returns-in-None c).After-part-name))
 
-pub returns-in-At : goal.returns-in-At
-unfolding option_of is_index
-returns-in-At c = rw c.in-At.is at (answer (goal.at.returns-in-At c).After-find_region-found (name-is (goal.at.returns-in-At c).After-part-name))
+pub returns-in-Some : goal.returns-in-Some
+unfolding is_index
+returns-in-Some c = rw c.in-Some.is at (answer (goal.at.returns-in-Some c).After-find_region-found (name-is (goal.at.returns-in-Some c).After-part-name))

@@ -1,4 +1,4 @@
-use Prim.Native.Nat.{suc, ◌-◌}
+use Prim.Native.Nat.{suc, ◌-◌, ◌<◌}
 use mathlib.Core.Path.{◌≡◌}
 use lib.ListN.{length, take}
 use Rattle.blocks.specs.Collecting.{line_ends}
@@ -6,13 +6,14 @@ use Rattle.lookup.specs.Known.{AllRight}
 use Rattle.reader.proofs.FillLaws.{Filled}
 use Rattle.reader.proofs.filling.fill.Given as goal
 
--- `reader::filling::fill` meets its contract.
-abbrev pub invariant-loop-begin : goal.invariant-loop-begin
-invariant-loop-begin l =
-    Filled l.text l.initial.cues l.initial.regions l.initial.styles l.at l.n l.cues l.regions l.styles
-    × (length l.known ≡ 256)
-    × AllRight l.text (take l.n.regions l.regions) l.known
-    × (l.line ≡ suc (line_ends (take l.at l.text)))
+abbrev pub invariant-loop-block : goal.invariant-loop-block
+invariant-loop-block l =
+    record {
+      filled : Filled l.text l.initial.cues l.initial.regions l.initial.styles l.at l.n l.cues l.regions l.styles;
+      known_len : length l.known ≡ 256;
+      right : AllRight l.text (take l.n.regions l.regions) l.known;
+      numbered : l.at < length l.text → l.line ≡ suc (line_ends (take l.at l.text));
+    }
 
-abbrev pub decreases-loop-begin : goal.decreases-loop-begin
-decreases-loop-begin l = length l.text - l.at
+abbrev pub decreases-loop-block : goal.decreases-loop-block
+decreases-loop-block l = length l.text - l.at

@@ -1,64 +1,65 @@
-use mathlib.Core.Path.{sym, ◌∙◌}
+use mathlib.Core.Path.{◌≡◌, sym, ◌∙◌}
+use mathlib.Core.Bool.{true, ◌||◌}
+use native.Mathlib.Omega.{arith}
+use lib.Dec.{ltb}
 use lib.ListN.{length}
-use borrow.Author.Tests.{ltb-false}
+use borrow.Author.Tests.{lt-ltb, ltb-false}
+use Rattle.std.proofs.lemmas.Result.{err_from_is_err_and}
 use Rattle.format.specs.Limits.{max_text}
 use Rattle.format.specs.Lists.{lists}
 use Rattle.format.specs.Rows.{region_rows, style_rows, stored_cues}
+use Rattle.format.specs.Reading.{lists_error}
+use Rattle.laws.proofs.Tests.{or_true}
 use Rattle.blocks.proofs.WalkLaws.{after-header}
-use Rattle.reader.specs.Counting.{Readable}
-use Rattle.reader.proofs.ReadLaws.{refuses, nothing_changes, short-answer, full_answer, long_enough, accepted-rows, short-rows}
+use Rattle.reader.specs.Counting.{Readable, Refused}
+use Rattle.reader.proofs.ReadLaws.{text_refuses, too_short, short-answer, full_answer, accepted-rows, short-rows}
 use Rattle.reader.proofs.inner.read_plain.Goals as goal
-use Rattle.reader.proofs.inner.read_plain.Goals.{In-Lists}
 
-pub measure-measured-requires : goal.measure-measured-requires
-measure-measured-requires c = (c.requires.0, c.requires.1, c.past_header-from.ensures)
+pub measure-requires : goal.measure-requires
+measure-requires c = (c.requires.0, c.requires.1, c.past_header-from.ensures)
 
-pub returns-in_default : goal.returns-in_default
-returns-in_default c =
+pub returns-in_err-need : goal.returns-in_err-need
+unfolding lists_error
+returns-in_err-need c =
     let a = c.args in
     let s = a.text.now in
-    let r = c.measure-measured.result in
-    let both = nothing_changes s r (refuses s r c.measure-measured.ensures c.in_default.not-Lists) a.cues.now a.regions.now a.styles.now in
-    record { answer = both.0; cues = both.1.0; regions = both.1.1.0; styles = both.1.1.1 }
+    let p = err_from_is_err_and c.from_residual.result c.from_residual.ensures.1 in
+    let e = c.in_err-need.field-0.0 in
+    let u = text_refuses s a.cues.now a.regions.now a.styles.now e c.in_err-need.ensures in
+    rw (p.1, p.2) (record { answer = u.0; cues = u.1.0; regions = u.1.1.0; styles = u.1.1.1 })
 
--- the text is readable, with these counts
-readable :
-    (c : In-Lists)
-    → Readable c.args.text.now c.in-Lists.c c.in-Lists.r c.in-Lists.s
-readable c = rw c.in-Lists.is at c.measure-measured.ensures
-
-pub returns-then-too_short : goal.returns-then-too_short
-returns-then-too_short c =
+pub returns-then-cues-need : goal.returns-then-cues-need
+returns-then-cues-need c =
     let a = c.args in
     let s = a.text.now in
-    let short = sym c.too_short.ensures ∙ c.if-too_short.true in
+    let need = c.in_ok-need.need in
+    let cues = length a.cues.now in
+    let regions = length a.regions.now in
+    let styles = length a.styles.now in
     record {
-      answer = short-answer s c.in-Lists.c c.in-Lists.r c.in-Lists.s (readable (goal.at.returns-then-too_short c).In-Lists) (length a.cues.now) (length a.regions.now) (length a.styles.now) short;
-      cues = short-rows c.in-Lists.c c.in-Lists.r c.in-Lists.s (stored_cues s) a.cues.now;
-      regions = short-rows c.in-Lists.c c.in-Lists.r c.in-Lists.s (region_rows (lists s).regions) a.regions.now;
-      styles = short-rows c.in-Lists.c c.in-Lists.r c.in-Lists.s (style_rows (lists s).styles) a.styles.now;
+      answer = short-answer s need c.in_ok-need.ensures cues regions styles (too_short cues need.cues regions need.regions styles need.styles c.then-cues-need.either);
+      cues = short-rows need (stored_cues s) a.cues.now;
+      regions = short-rows need (region_rows (lists s).regions) a.regions.now;
+      styles = short-rows need (style_rows (lists s).styles) a.styles.now;
     }
 
 pub fill-requires : goal.fill-requires
 fill-requires c =
-    let a = c.args in
-    let s = a.text.now in
-    let m = readable (goal.at.fill-requires c).In-Lists in
-    let long = sym c.too_short.ensures ∙ c.if-too_short.false in
+    let m = c.in_ok-need.ensures in
+    let after = after-header c.args.text.now in
     record {
-      from_in_bounds = (rw c.past_header-from.ensures (after-header s).0, ltb-false max_text (length s) m.size, rw c.past_header-from.ensures (after-header s).1, m.within);
-      text_in_bounds = long_enough s c.in-Lists.c c.in-Lists.r c.in-Lists.s m (length a.cues.now) (length a.regions.now) (length a.styles.now) long;
+      from_in_bounds = (rw c.past_header-from.ensures after.0, c.requires.0, rw c.past_header-from.ensures after.1, m.within);
+      text_in_bounds = (omega (arith, m.cues_are), omega (arith, m.regions_are), omega (arith, m.styles_are));
     }
 
 pub returns : goal.returns
 returns c =
     let a = c.args in
     let s = a.text.now in
-    let m = readable (goal.at.returns c).In-Lists in
-    let long = sym c.too_short.ensures ∙ c.if-too_short.false in
+    let need = c.in_ok-need.need in
     record {
-      answer = full_answer s c.in-Lists.c c.in-Lists.r c.in-Lists.s m (length a.cues.now) (length a.regions.now) (length a.styles.now) long;
-      cues = c.fill.ensures.cues ∙ accepted-rows c.in-Lists.c c.in-Lists.r c.in-Lists.s (stored_cues s) a.cues.now;
-      regions = c.fill.ensures.regions ∙ accepted-rows c.in-Lists.c c.in-Lists.r c.in-Lists.s (region_rows (lists s).regions) a.regions.now;
-      styles = c.fill.ensures.styles ∙ accepted-rows c.in-Lists.c c.in-Lists.r c.in-Lists.s (style_rows (lists s).styles) a.styles.now;
+      answer = full_answer s need c.in_ok-need.ensures (length a.cues.now) (length a.regions.now) (length a.styles.now) c.if-cues-need.false c.if-regions-need.false c.if-styles-need.false;
+      cues = c.fill.ensures.cues ∙ accepted-rows need (stored_cues s) a.cues.now;
+      regions = c.fill.ensures.regions ∙ accepted-rows need (region_rows (lists s).regions) a.regions.now;
+      styles = c.fill.ensures.styles ∙ accepted-rows need (style_rows (lists s).styles) a.styles.now;
     }

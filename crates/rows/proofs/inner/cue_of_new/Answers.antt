@@ -1,7 +1,11 @@
-use mathlib.Core.Path.{refl}
-use Rattle.format.specs.Rows.{cue_codes_named}
+use Prim.Native.Nat.{◌≤◌}
+use lib.ListN.{length}
+use Rattle.std.proofs.Common.{rules}
+use Rattle.rows.proofs.RowLaws.{same_entry, same_codes, no_lines}
 use Rattle.rows.proofs.inner.cue_of_new.Goals as goal
 
 pub returns : goal.returns
-unfolding cue_codes_named
-returns c = (refl, refl, refl)
+returns c =
+    let row = c.args.row in
+    let long : 16 ≤ length row = search rules in
+    rw c.copy_from_slice.ensures.after (same_entry row long, same_codes row long, no_lines row long)

@@ -17,7 +17,4 @@ returns-then-is_digit-2 c =
     let a = sym c.is_digit.ensures ∙ c.if-is_digit.true in
     let b = sym c.is_digit-then-is_digit.ensures ∙ c.if-is_digit-2.true in
     let one = digits-one t args.k v (omega arith) a c.value_of.ensures.0 in
-    λ l. digits-next t args.k 1 v c.value_of-then-is_digit-2.result (omega arith) one b c.value_of-then-is_digit-2.ensures.0
-
-pub returns : goal.returns
-returns c = λ l. absurd (omega arith)
+    (omega arith, digits-next t args.k 1 v c.value_of-then-is_digit-2.result (omega arith) one b c.value_of-then-is_digit-2.ensures.0)

@@ -4,4 +4,4 @@ use Rattle.values.proofs.bytes.part.Goals as goal
 pub returns : goal.returns
 returns c =
     let a = c.args in
-    cut_is a.text.now a.from a.to c.least-end.result c.least-start.result c.least-end.ensures c.least-start.ensures
+    cut_is a.text.now a.from a.to c.min-end.result c.min.result c.min-end.ensures c.min.ensures

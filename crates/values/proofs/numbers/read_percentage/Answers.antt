@@ -1,31 +1,29 @@
 use Prim.Native.Nat.{◌-◌}
-use mathlib.Core.Path.{sym, ap, ◌∙◌}
+use mathlib.Core.Path.{sym, ◌∙◌}
 use native.Mathlib.Omega.{arith}
 use lib.ListN.{length, take}
-use lib.Seq.{length-take-le}
 use Rattle.format.specs.Numbers.{decimal}
-use Rattle.values.specs.Numbers.{percentage_is, percentage_of}
-use Rattle.values.proofs.NumberLaws.{share_is, percentage-short, percentage_other, percentage_is_lem}
+use Rattle.values.proofs.NumberLaws.{share_is, share-none, percentage-short, percentage_other, percentage_is_lem}
 use Rattle.values.proofs.numbers.read_percentage.Goals as goal
 
 -- `values::numbers::read_percentage` meets its contract.
-pub returns-then-s-eq0 : goal.returns-then-s-eq0
-returns-then-s-eq0 c = sym (ap percentage_is (percentage-short c.args.s.now c.if-s-eq0.true))
+pub returns-in_default : goal.returns-in_default
+returns-in_default c = sym (percentage-short c.args.s.now (omega arith))
 
-pub returns-then-s-last-ne37 : goal.returns-then-s-last-ne37
-returns-then-s-last-ne37 c =
-    let args = c.args in
-    sym (ap percentage_is (percentage_other args.s.now (omega arith) c.if-s-last-ne37.true))
+pub returns-in_default-2 : goal.returns-in_default-2
+returns-in_default-2 c = sym (percentage_other c.args.s.now (omega arith) (λ e. absurd (omega (arith, e))))
 
-pub slice_bounds-read_decimal-end : goal.slice_bounds-read_decimal-end
-slice_bounds-read_decimal-end c =
+pub returns-in_err-read_decimal : goal.returns-in_err-read_decimal
+returns-in_err-read_decimal c =
     let s = c.args.s.now in
-    sym (length-take-le (length s - 1) s (omega arith))
+    c.from_residual.ensures
+    ∙ sym
+    (percentage_is_lem s (omega arith) (omega arith)
+    ∙ share-none (decimal (take (length s - 1) s)) (sym c.read_decimal.ensures ∙ c.in_err-read_decimal.was))
 
 pub returns : goal.returns
 returns c =
     let s = c.args.s.now in
-    c.share_of.ensures
-    ∙ ap percentage_of c.read_decimal.ensures
-    ∙ share_is (decimal (take (length s - 1) s))
-    ∙ sym (ap percentage_is (percentage_is_lem s (omega arith) c.if-s-last-ne37.false))
+    c.up_to.ensures
+    ∙ share_is (decimal (take (length s - 1) s)) c.in_ok-read_decimal.field-0 (sym c.read_decimal.ensures ∙ c.in_ok-read_decimal.was)
+    ∙ sym (percentage_is_lem s (omega arith) (omega arith))

@@ -28,7 +28,7 @@ returns-then-end-at c =
     let args = c.args in
     let s = args.s.now in
     let place : place_of (length s) (drop args.at s) ≡ min args.at (length s) = omega (arith, length-drop args.at s) in
-    rw (stamp_no_digit s args.at (omega (arith, c.past-end.ensures, c.if-end-at.true)), c.least.ensures, place)
+    rw (stamp_no_digit s args.at (omega (arith, c.past-end.ensures, c.if-end-at.true)), c.min.ensures, place)
 
 pub slice_bounds-number_of-end : goal.slice_bounds-number_of-end
 slice_bounds-number_of-end c = (ran (goal.at.slice_bounds-number_of-end c).Else-end-at).inside

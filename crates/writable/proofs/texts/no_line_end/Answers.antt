@@ -9,23 +9,23 @@ use Rattle.writable.proofs.TextLaws.{all_at, all_end}
 use Rattle.writable.proofs.texts.no_line_end.Goals as goal
 use Rattle.writable.proofs.texts.no_line_end.Invariants.{other}
 
-pub loop-i-init : goal.loop-i-init
-loop-i-init c = (omega arith, refl)
+pub loop-b-init : goal.loop-b-init
+loop-b-init c = refl
 
-pub returns-then-s-i-eq10 : goal.returns-then-s-i-eq10
+pub returns-then-b-eq10 : goal.returns-then-b-eq10
 unfolding has
-returns-then-s-i-eq10 c =
+returns-then-b-eq10 c =
     let s = c.args.s.now in
-    let out = ap not (eq-eqb (get_or s c.loop-i.i 0) lf c.if-s-i-eq10.true) in
-    ap (λ t. not (not t)) (sym (all_at s c.loop-i.i (omega arith) other false out) ∙ c.loop-i.invariant.1)
+    let out = ap not (eq-eqb (get_or s c.loop-b.b-index 0) lf c.if-b-eq10.true) in
+    ap (λ t. not (not t)) (sym (all_at s c.loop-b.b-index (omega arith) other false out) ∙ c.loop-b.invariant)
 
-pub loop-i-preserved : goal.loop-i-preserved
-loop-i-preserved c =
+pub loop-b-preserved : goal.loop-b-preserved
+loop-b-preserved c =
     let s = c.args.s.now in
-    let fits = ap not (ne_eqb (get_or s c.loop-i.i 0) lf c.if-s-i-eq10.false) in
-    (omega arith, sym (all_at s c.loop-i.i (omega arith) other true fits) ∙ c.loop-i.invariant.1)
+    let fits = ap not (ne_eqb (get_or s c.loop-b.b-index 0) lf c.if-b-eq10.false) in
+    sym (all_at s c.loop-b.b-index (omega arith) other true fits) ∙ c.loop-b.invariant
 
 pub returns : goal.returns
 unfolding has
 returns c =
-    ap (λ t. not (not t)) (sym (all_end c.args.s.now c.loop-i.i (omega arith) other) ∙ c.loop-i.invariant.1)
+    ap (λ t. not (not t)) (sym (all_end c.args.s.now c.loop-b.b-index (omega arith) other) ∙ c.loop-b.invariant)

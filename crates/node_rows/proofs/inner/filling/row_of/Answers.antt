@@ -5,10 +5,5 @@ pub returns : goal.returns
 returns c =
     let at = c.args in
     λ classes value e f.
-    rw (
-      c.kind_word.ensures,
-      c.place.ensures,
-      c.place-2.ensures,
-      c.place-3.ensures,
-      c.place-4.ensures,
-    ) (row_is at.parent at.kind at.from at.between at.to at.time classes value e f)
+    rw (c.from.ensures, c.place.ensures, c.place-2.ensures, c.place-3.ensures, c.place-4.ensures)
+    (row_is at.parent at.made at.from at.between at.to classes value e f)

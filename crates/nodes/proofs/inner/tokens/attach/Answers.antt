@@ -1,24 +1,17 @@
-use mathlib.Core.Path.{sym, ◌∙◌}
+use Rattle.std.proofs.Common.{sym, ◌∙◌}
 use Rattle.nodes.specs.Tokens.{attached_kind}
 use Rattle.nodes.proofs.inner.tokens.attach.Goals as goal
+use Rattle.nodes.proofs.inner.tokens.attach.Goals.{else-is_kind-via-then-is_kind+else-not-is_kind, else-is_kind-via-else-is_kind}
 
 pub returns-then-not-is_kind : goal.returns-then-not-is_kind
 unfolding attached_kind
-returns-then-not-is_kind c =
-    rw (sym c.is_kind.ensures ∙ c.if-not-is_kind.true)
-
-pub returns-then-not-is_kind-2 : goal.returns-then-not-is_kind-2
-unfolding attached_kind
-returns-then-not-is_kind-2 c =
-    rw (
-      sym c.is_kind.ensures ∙ c.if-not-is_kind.false,
-      sym c.is_kind-2.ensures ∙ c.if-not-is_kind-2.true,
-    )
+returns-then-not-is_kind c = rw (sym c.is_kind.ensures ∙ c.if-is_kind.true, sym c.is_kind-then-is_kind.ensures ∙ c.if-not-is_kind.true)
 
 pub returns : goal.returns
 unfolding attached_kind
 returns c =
-    rw (
-      sym c.is_kind.ensures ∙ c.if-not-is_kind.false,
-      sym c.is_kind-2.ensures ∙ c.if-not-is_kind-2.false,
-    )
+    elim c.else-is_kind.branch [
+      | else-is_kind-via-then-is_kind+else-not-is_kind w ↦
+          rw (sym c.is_kind.ensures ∙ w.if-is_kind.true, sym w.is_kind-then-is_kind.ensures ∙ w.if-not-is_kind.false)
+      | else-is_kind-via-else-is_kind w ↦ rw (sym c.is_kind.ensures ∙ w.if-is_kind.false)
+    ]

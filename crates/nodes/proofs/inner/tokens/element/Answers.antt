@@ -1,18 +1,18 @@
-use mathlib.Core.Path.{sym, ap, ◌∙◌}
+use Rattle.std.proofs.Common.{◌≡◌, sym, ap, ◌∙◌}
 use Rattle.format.specs.Trees.{attached}
-use Rattle.nodes.specs.Tokens.{kind_is, attached_kind, element_made}
+use Rattle.nodes.specs.Tokens.{attached_kind, element_made}
 use Rattle.nodes.proofs.inner.tokens.element.Goals as goal
+use Rattle.nodes.proofs.inner.tokens.element.Goals.{After-attach}
 
-pub returns-in-None : goal.returns-in-None
-unfolding attached attached_kind element_made
-returns-in-None c =
-    let at = c.args in
-    let is = c.attach.ensures ∙ ap (attached_kind (kind_is at.current)) c.named_at.ensures in
-    ap (λ k. element_made (kind_is k)) (sym c.in-None.is) ∙ ap element_made is
+-- what is attached
+found : (c : After-attach) → c.attach.result ≡ attached c.args.current c.args.name.now
+unfolding attached attached_kind
+found c = c.attach.ensures ∙ ap (attached_kind c.args.current) c.kind_named.ensures
 
-pub returns-in-Is : goal.returns-in-Is
-unfolding attached attached_kind element_made
-returns-in-Is c =
-    let at = c.args in
-    let is = c.attach.ensures ∙ ap (attached_kind (kind_is at.current)) c.named_at.ensures in
-    ap (λ k. element_made (kind_is k)) (sym c.in-Is.is) ∙ ap element_made is
+pub returns-in_err-kind : goal.returns-in_err-kind
+unfolding element_made
+returns-in_err-kind c = c.from_residual.ensures ∙ ap element_made (sym c.in_err-kind.was ∙ found (goal.at.returns-in_err-kind c).After-attach)
+
+pub returns : goal.returns
+unfolding element_made
+returns c = ap element_made (sym c.in_ok-kind.was ∙ found (goal.at.returns c).After-attach)

@@ -36,17 +36,17 @@ left :
 left c names plain =
     let a = c.args in
     name_decides a.text.now a.row _ names (passed plain c.if-not-part_plain.false-raw)
-    (c.cue_of_new.ensures.0, c.cue_of_new.ensures.1) c.cue_fields_test-fields.ensures c.if-fields-ne0.false
+    (c.cue_of_new.ensures.0, c.cue_of_new.ensures.1) c.cue_fields_test.ensures c.in_default.is
 
 pub returns-then-not-part_plain : goal.returns-then-not-part_plain
 unfolding new_cue_fails new_test1 first_failing
 returns-then-not-part_plain c names e = rw (failed (plain-is (goal.at.returns-then-not-part_plain c).After-part_plain) c.if-not-part_plain.true-raw, and-false (cue_test1 _ _) false refl)
 
-pub returns-then-fields-ne0 : goal.returns-then-fields-ne0
-returns-then-fields-ne0 c names e =
+pub returns-in-Some : goal.returns-in-Some
+returns-in-Some c names e =
     let a = c.args in
-    fields_fail a.text.now a.row _ names (passed (plain-is (goal.at.returns-then-fields-ne0 c).After-part_plain) c.if-not-part_plain.false-raw)
-    (c.cue_of_new.ensures.0, c.cue_of_new.ensures.1) c.cue_fields_test-fields.ensures c.if-fields-ne0.true
+    fields_fail a.text.now a.row _ names (passed (plain-is (goal.at.returns-in-Some c).After-part_plain) c.if-not-part_plain.false-raw)
+    (c.cue_of_new.ensures.0, c.cue_of_new.ensures.1) c.cue_fields_test.ensures c.in-Some.is
 
 pub returns-then-name-eq0 : goal.returns-then-name-eq0
 unfolding new_test6 first_failing

@@ -1,23 +1,14 @@
-use mathlib.Core.Path.{refl, sym, ap}
-use lib.Dec.{eqb}
-use lib.ListN.{get_or, get_or-eq_default}
-use borrow.Author.Tests.{eq-eqb, ne_eqb}
-use Rattle.format.specs.Bytes.{ampersand, semicolon}
-use Rattle.laws.proofs.Tests.{and-false}
+use Rattle.std.proofs.Common.{◌∙◌}
+use borrow.Author.Tests.{ne_eqb}
+use Rattle.format.specs.Bytes.{ampersand}
 use Rattle.strings.specs.Turns.{escapes}
+use Rattle.strings.proofs.TurnLaws.{semicolon_at}
 use Rattle.strings.proofs.inner.puts.is_escape.Goals as goal
 
-pub returns-then-s-i-ne38 : goal.returns-then-s-i-ne38
+pub returns-then-s-i-eq38 : goal.returns-then-s-i-eq38
 unfolding escapes
-returns-then-s-i-ne38 c = rw (ne_eqb _ ampersand c.if-s-i-ne38.true) refl
+returns-then-s-i-eq38 c = rw c.if-s-i-eq38.true (c.is_at.ensures ∙ semicolon_at c.args.s.now c.args.end)
 
-pub returns-then-s-end : goal.returns-then-s-end
+pub returns-else-s-i-eq38 : goal.returns-else-s-i-eq38
 unfolding escapes
-returns-then-s-end c =
-    let args = c.args in
-    let none = get_or-eq_default args.s.now 0 {n = args.end} c.if-s-end.true in
-    sym (and-false (eqb (get_or args.s.now args.i 0) ampersand) _ (ap (λ b. eqb b semicolon) none))
-
-pub returns : goal.returns
-unfolding escapes
-returns c = rw (eq-eqb _ ampersand c.if-s-i-ne38.false) refl
+returns-else-s-i-eq38 c = rw (ne_eqb _ ampersand c.if-s-i-eq38.false)

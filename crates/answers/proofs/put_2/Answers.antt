@@ -1,7 +1,0 @@
-use mathlib.Core.Path.{refl}
-use Rattle.format.specs.Answers.{with_values}
-use Rattle.answers.proofs.put_2.Goals as goal
-
-pub returns : goal.returns
-unfolding with_values
-returns c = refl

@@ -1,6 +1,0 @@
-use Rattle.std.proofs.Common.{◌≤◌}
-use Rattle.listing.proofs.printing.word.Given as goal
-
--- The word that is passed begins no later than the byte that is read.
-abbrev pub invariant-loop-i : goal.invariant-loop-i
-invariant-loop-i g l = l.start ≤ l.i

@@ -1,0 +1,2 @@
+-- The laws of the choice.
+pub mod NameLaws

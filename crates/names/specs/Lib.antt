@@ -1,0 +1,2 @@
+-- What the contract of this crate says beyond `format`.
+pub mod Names

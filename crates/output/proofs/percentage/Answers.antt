@@ -1,8 +1,0 @@
-use Rattle.format.specs.Written.{written_percentage}
-use Rattle.output.proofs.PutLaws.{◌then◌}
-use borrow.Author.Rules.{rules}
-use Rattle.output.proofs.percentage.Goals as goal
-
-pub returns : goal.returns
-unfolding written_percentage
-returns c = search (rules, ◌then◌)

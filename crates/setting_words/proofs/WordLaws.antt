@@ -1,0 +1,39 @@
+-- Words that are none of those of a setting.
+use Prim.Native.Nat.{ℕ}
+use mathlib.Core.Path.{◌≡◌}
+use mathlib.Core.Bool.{false}
+use mathlib.Core.List.{List}
+use Rattle.std.specs.Prelude.{None}
+use Rattle.format.specs.Bytes.{ascii}
+use Rattle.format.specs.Texts.{same}
+use Rattle.format.specs.CueSettings.{direction, alignment}
+use Rattle.format.specs.declared.settings.Direction.{Direction}
+use Rattle.format.specs.declared.settings.Align.{Align}
+use Rattle.setting_words.specs.Words.{line_word, position_word}
+
+pub direction_none : (x : List ℕ) (d : Direction) → same x (ascii "rl") ≡ false → same x (ascii "lr") ≡ false → d ≡ direction x d
+unfolding direction
+direction_none x d rl lr = rw (rl, lr)
+
+pub alignment_none :
+    (x : List ℕ) (a : Align)
+    → same x (ascii "start") ≡ false
+    → same x (ascii "center") ≡ false
+    → same x (ascii "end") ≡ false
+    → same x (ascii "left") ≡ false
+    → same x (ascii "right") ≡ false
+    → a ≡ alignment x a
+unfolding alignment
+alignment_none x a start center end left right = rw (start, center, end, left, right)
+
+pub line_none :
+    (x : List ℕ) → same x (ascii "start") ≡ false → same x (ascii "center") ≡ false → same x (ascii "end") ≡ false → None ≡ line_word x
+line_none x start center end = rw (start, center, end)
+
+pub position_none :
+    (x : List ℕ)
+    → same x (ascii "line-left") ≡ false
+    → same x (ascii "center") ≡ false
+    → same x (ascii "line-right") ≡ false
+    → None ≡ position_word x
+position_none x left center right = rw (left, center, right)

@@ -1,0 +1,10 @@
+use Rattle.std.proofs.Common.{rules}
+use native.Mathlib.Omega.{arith}
+use Rattle.format.specs.Bytes.{ascii}
+use Rattle.format.specs.Texts.{same}
+use Rattle.values.proofs.WordLaws.{named}
+use Rattle.setting_words.proofs.line_word.Goals as goal
+
+pub returns-in-center : goal.returns-in-center
+unfolding same
+returns-in-center c = rw (named c.args.name.now (ascii "center") (omega arith) (search rules))
