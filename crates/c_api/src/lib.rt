@@ -21,9 +21,9 @@ ghost use Rattle.format.specs.Parts.{part_answer_is, asking};
 ghost use Rattle.c_api.specs.Lent.{lent_words, place_told, entry_at};
 
 use answers::Told;
+use format::PartError;
 use format::rows::{CUE_WORDS, CueRow, NEW_CUE_WORDS, NewCueRow, NodeRow, RegionRow, StyleRow};
 use format::settings::Span;
-use format::{PartError, ReadError};
 
 // The plain text of a raw file goes to `room`. Values: its length; for 2 the length needed.
 #[unsafe(no_mangle)]
@@ -41,10 +41,7 @@ pub extern "C" fn spatz_first_not_plain(text: &[u8], values: &mut [u64; 8]) -> u
     ensures number { result ≡ refusal_number (testing text.now) }
     ensures values { values.new ≡ with_values 0 (returned (testing text.now)) values.old }
 {
-    match plain::first_not_plain(text) {
-        None => 0,
-        Some(place) => ReadError::NotPlainAt(place).tell(values),
-    }
+    plain::first_not_plain(text).tell(values)
 }
 
 // The lists of a plain text go to the tables. Values: the counts of cues, regions and styles, for 6 too; for 3 the first place that is not plain.
