@@ -49,6 +49,11 @@ unload-set zero words i v h = refl
 unload-set (suc n) words i v h =
     rw (get_or-set_other words i n v 0 (λ e. omega arith), unload-set n words i v (omega arith)) refl
 
+-- what stands after the filled words says nothing of the kinds
+pub kinds-set : (words : List ℕ) (full held top i v : ℕ) → full ≤ i → kinds_in (set words i v) full held top ≡ kinds_in words full held top
+unfolding kinds_in
+kinds-set words full held top i v h = ap (λ ks. digits held top ++ ks) (unload-set full words i v h)
+
 -- a word stays below the power of eight of its kinds
 pub push_small : (n w k : ℕ) → w < 8 ^ n → k < 8 → w * 8 + k < 8 ^ (n + 1)
 push_small n w k h l = rw (add-one n) (omega (arith, pow-suc 8 n))

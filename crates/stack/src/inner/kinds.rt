@@ -26,6 +26,8 @@ impl<'a> Stack<'a> {
     pub fn empty(words: &'a mut [u64]) -> Stack<'a>
         ensures is { kinds result ≡ [] }
         ensures long { length result.words.now ≡ length words.old }
+        ensures kept { result.words.now ≡ words.old }
+        ensures lent { result.words.ghost_name ≡ words.entry.ghost_name }
     {
         Stack {
             words,
@@ -50,6 +52,7 @@ impl<'a> Stack<'a> {
         requires { (kind < 8) × (length (kinds self.old) < 21 * length self.old.words.now) }
         ensures is { kinds self.new ≡ kind ∷ kinds self.old }
         ensures long { length self.new.words.now ≡ length self.old.words.now }
+        ensures lent { self.new.words.ghost_name ≡ self.old.words.ghost_name }
     {
         if self.held < 21 {
             self.held += 1;
@@ -62,10 +65,13 @@ impl<'a> Stack<'a> {
         }
     }
 
-    // Takes the top kind off; an empty stack stays as it is. The word filled last comes back when the top word has no other kind.
+    // Takes the top kind off; an empty stack stays as it is. The word filled last comes back when the top word has no other kind. The lent words
+    // stay as they were.
     pub fn pop(&mut self)
         ensures is { kinds self.new ≡ drop 1 (kinds self.old) }
         ensures long { length self.new.words.now ≡ length self.old.words.now }
+        ensures kept { self.new.words.now ≡ self.old.words.now }
+        ensures lent { self.new.words.ghost_name ≡ self.old.words.ghost_name }
     {
         if self.held == 1 && 0 < self.full {
             self.full -= 1;
