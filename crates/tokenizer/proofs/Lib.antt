@@ -2,4 +2,5 @@
 pub mod Strings
 pub mod Tags
 pub mod Spans
+pub mod Promises
 pub mod HandedOut

@@ -7,6 +7,7 @@ ghost use Rattle.std.specs.Prelude.{◌≡◌, ◌+◌, ◌≤◌, length, drop}
 ghost use Rattle.format.specs.Texts.{run};
 ghost use Rattle.format.specs.CueText.{blank};
 ghost use Rattle.tokenizer.specs.Tags.{in_name, start_told, tag_is, step_is};
+ghost use Rattle.tokenizer.specs.Reader.{moved_to};
 
 use format::settings::Span;
 pub use reader::{Tokenizer, token_at};
@@ -116,4 +117,14 @@ fn step(text: &[u8], at: usize) -> Option<Stepped>
     let token = tag(text, from, to);
     let next = if to < text.len() { to + 1 } else { to };
     Some(Stepped { token, next })
+}
+
+// Where the next token begins after a step; where there is none, the same place.
+fn place_after(stepped: Option<Stepped>, at: usize) -> usize
+    ensures { result ≡ moved_to stepped at }
+{
+    match stepped {
+        Some(found) => found.next,
+        None => at,
+    }
 }

@@ -5,7 +5,7 @@ ghost use Rattle.std.specs.Prelude.{◌≡◌, leb, length};
 ghost use Rattle.tokenizer.specs.Tags.{step_is, StepAt};
 ghost use Rattle.tokenizer.specs.Reader.{moved_to};
 
-use super::{Stepped, step};
+use super::{Stepped, place_after, step};
 
 #[derive(Drop)]
 pub struct Tokenizer<'a> {
@@ -35,10 +35,7 @@ impl<'a> Tokenizer<'a> {
         ensures moved { self.new ≡ record { text = self.old.text; at = moved_to (step_is self.old.text.now self.old.at) self.old.at } }
     {
         let stepped = step(self.text, self.at);
-        self.at = match stepped {
-            Some(found) => found.next,
-            None => self.at,
-        };
+        self.at = place_after(stepped, self.at);
         stepped
     }
 }
