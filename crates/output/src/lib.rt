@@ -7,9 +7,9 @@ ghost use Rattle.std.proofs.lemmas.List.Edits.{sets};
 ghost use Rattle.format.specs.Limits.{max_file};
 ghost use Rattle.format.specs.Written.{last_digits, at_least, decimal_in, without_zeros, fraction};
 ghost use Rattle.format.specs.Written.{written_time, written_decimal, written_percentage};
-ghost use Rattle.output.specs.Puts.{place_after, Puts, EachPuts, Made};
+ghost use Rattle.output.specs.Puts.{place_after, Puts};
 
-use format::OutError;
+pub mod inner;
 
 // A lent room, and the place in it where the next byte goes. What is put beyond the room's end is only counted.
 #[derive(Drop)]
@@ -18,27 +18,15 @@ pub struct Output<'a> {
     pub at: usize,
 }
 
-// A file of what is put, at the start of a room. It is measured first, in a room of one byte: a refusal leaves the room as it was.
-pub fn make_file<F: Fn(&mut Output)>(put: F, room: &mut [u8]) -> Result<usize, OutError>
-    requires { F.IsAlwaysCallable put }
-    ensures { (file : List ℕ) → EachPuts (F.post put) file → Made file room.old result room.new }
+// A text into a room of its own length, byte by byte: `copy_from_slice` calls `memmove` for a text of any length, which an archive for C would need
+// from outside, and that call costs more than the pieces of one to three bytes that are put most.
+fn copy(s: &[u8], room: &mut [u8])
+    requires { length s.now ≡ length room.old }
+    ensures { room.new ≡ s.now }
 {
-    let mut nothing = [0u8; 1];
-    let mut measured = Output {
-        room: &mut nothing,
-        at: 0,
-    };
-    put(&mut measured);
-    let need = measured.at;
-    if format::MAX_FILE < need {
-        return Err(OutError::FileTooLong);
+    for i in 0..s.len() {
+        room[i] = s[i];
     }
-    if room.len() < need {
-        return Err(OutError::OutTooShort(need));
-    }
-    let mut out = Output { room, at: 0 };
-    put(&mut out);
-    Ok(out.at)
 }
 
 // Stores a text from a place on; nothing outside the room, and that costs no time.
@@ -49,12 +37,12 @@ pub fn store_text(s: &[u8], room: &mut [u8], at: usize)
         return;
     }
     let fits = room.len() - at;
-    // A text that fits is copied by its own length: that of a literal is known, so the bytes are stored with no call.
+    // A text that fits is copied by its own length: that of a literal is known, so the bytes are stored with no loop.
     if s.len() <= fits {
-        room[at..at + s.len()].copy_from_slice(s);
+        copy(s, &mut room[at..at + s.len()]);
         return;
     }
-    room[at..].copy_from_slice(&s[..fits]);
+    copy(&s[..fits], &mut room[at..]);
 }
 
 // The place after so many bytes more.

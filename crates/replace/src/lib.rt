@@ -65,7 +65,7 @@ fn make_file(
     {
         put_file(raw, start, end, text, row, out);
     };
-    output::make_file(put, out)
+    output::inner::make_file(put, out)
 }
 
 // Is the line of a plain text before the one that has this place empty. Its end is sought back from the place: a cue's lines begin right

@@ -35,7 +35,7 @@ pub fn write(
     {
         put_file(text, styles, regions, cues, out);
     };
-    Ok(output::make_file(put, out)?)
+    Ok(output::inner::make_file(put, out)?)
 }
 
 fn put_file(

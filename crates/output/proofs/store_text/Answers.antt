@@ -31,7 +31,7 @@ returns-then-s-fits c =
     let s = args.s.now in
     let room = args.room.now in
     let to = args.at + length s in
-    ap (put_mid args.at (to - args.at) room) c.copy_from_slice.ensures.after ∙ mid-sets s room args.at to refl (omega arith)
+    ap (put_mid args.at (to - args.at) room) c.copy.ensures ∙ mid-sets s room args.at to refl (omega arith)
 
 pub returns : goal.returns
 returns c =
@@ -40,6 +40,6 @@ returns c =
     let room = args.room.now in
     let fits = length room - args.at in
     let part : length (take fits s) ≡ fits = length-take-le fits s (omega arith) in
-    ap (put_mid args.at fits room) c.copy_from_slice-2.ensures.after
+    ap (put_mid args.at fits room) c.copy-2.ensures
     ∙ mid-sets (take fits s) room args.at (length room) (omega arith) (omega arith)
     ∙ sets-fits fits s room args.at (omega arith)

@@ -1,6 +1,6 @@
 use mathlib.Core.Path.{refl, sym}
 use Rattle.output.proofs.FileLaws.{too_long_lem, too_short, made}
-use Rattle.output.proofs.make_file.Goals as goal
+use Rattle.output.proofs.inner.make_file.Goals as goal
 
 pub returns-then-need-gt-MAX_FILE : goal.returns-then-need-gt-MAX_FILE
 returns-then-need-gt-MAX_FILE g c = λ file puts. too_long_lem (puts _ _ c.put.ensures) refl _ c.if-need-gt-MAX_FILE.true
