@@ -6,7 +6,7 @@ use mathlib.Core.List.{List, [], ◌∷◌, ◌++◌}
 use native.Mathlib.Numerals.{add-one}
 use native.Mathlib.Omega.{arith}
 use lib.Dec.{eqb, ltb}
-use lib.ListN.{length, get_or, take, drop, length-drop}
+use lib.ListN.{length, get_or, take, drop, length-drop, drop_of_length-le}
 use lib.Seq.{take-suc, take-add, drop-cons, drop-drop}
 use borrow.Author.Tests.{eqb-true, eq-eqb, ne_eqb, lt-ltb, le-ltb, ltb-true, ltb-false}
 use Rattle.std.specs.Cmp.Lexicographic.{pointwise}
@@ -243,6 +243,15 @@ starts_prefix (c ∷ w) (b ∷ x) = ap (λ t. eqb b c && t) (starts_prefix w x)
 
 pub starts_is : (w x : List ℕ) → starts_with w x ≡ pointwise eqb w (take (length w) x)
 starts_is w x = starts_prefix w x ∙ nat_list_eq_equiv.symm (take (length w) x) w
+
+-- no arrow stands where no hyphen does
+pub arrow_other : (s : List ℕ) (i : ℕ) → i < length s → (get_or s i 0 ≡ 0x2D → ⊥) → starts_with (ascii "-->") (drop i s) ≡ false
+unfolding starts_with
+arrow_other s i l n = rw (drop-cons s i 0 l, ne_eqb (get_or s i 0) 0x2D n)
+
+pub arrow_none : (s : List ℕ) (i : ℕ) → length s ≤ i → starts_with (ascii "-->") (drop i s) ≡ false
+unfolding starts_with
+arrow_none s i l = rw (drop_of_length-le s {i = i} l) refl
 
 holds_some : (x : List ℕ) → holds_arrow x ≡ true → 0 < length x
 unfolding holds_arrow

@@ -1,8 +1,8 @@
 // Collecting one block: line by line, up to an empty line, the text's end, or a line with an arrow that cannot be its timing line.
-ghost use Rattle.std.specs.Prelude.{◌≡◌, ◌&&◌, not, ltb, eqb, ◌≤◌, ◌<◌, length, get_or, drop};
-ghost use Rattle.format.specs.Bytes.{ascii, lf};
+ghost use Rattle.std.specs.Prelude.{◌≡◌, ◌+◌, ◌≤◌, ◌<◌, false, [], length, drop};
+ghost use Rattle.format.specs.Bytes.{ascii};
 ghost use Rattle.format.specs.Texts.{starts_with};
-ghost use Rattle.blocks.specs.Collecting.{head_after, lines_from, collect_from, ArrowOrEnd};
+ghost use Rattle.blocks.specs.Collecting.{head_after, lines_from, collect_from, line_at, ArrowOrEnd};
 
 use values::bytes::{ByteKind, past};
 
@@ -90,6 +90,7 @@ impl Head {
 
 // Does `-->` stand here.
 #[tactic(auto, using(std::proofs::lemmas::Grind::common_steps, crate::proofs::LineLaws::starts_is))]
+#[inline(always)]
 fn arrow_at(s: &[u8], i: usize) -> bool
     requires { i ≤ length s.now }
     ensures { result ≡ starts_with (ascii "-->") (drop i s.now) }
@@ -97,18 +98,50 @@ fn arrow_at(s: &[u8], i: usize) -> bool
     s[i..].starts_with(b"-->")
 }
 
+// Does `-->` stand at a byte. Hardly any byte is a hyphen, so that is tried first: every byte of a text is asked.
+#[inline(always)]
+fn arrow_here(s: &[u8], i: usize) -> bool
+    requires { i < length s.now }
+    ensures { result ≡ starts_with (ascii "-->") (drop i s.now) }
+{
+    s[i] == b'-' && arrow_at(s, i)
+}
+
+// Does `-->` stand at a byte, or at the text's end, where none does.
+#[inline(always)]
+fn has_arrow(s: &[u8], i: usize) -> bool
+    requires { i ≤ length s.now }
+    ensures { result ≡ starts_with (ascii "-->") (drop i s.now) }
+{
+    i < s.len() && arrow_here(s, i)
+}
+
 // Where the first arrow stands of the line that begins here; where the line ends, if it has none.
 #[tactic(auto, using(crate::proofs::LineLaws::sought_first, crate::proofs::LineLaws::sought_next, crate::proofs::LineLaws::sought_arrow, crate::proofs::LineLaws::sought_lf, crate::proofs::LineLaws::sought_end))]
+#[inline(always)]
 fn arrow_or_end(s: &[u8], line: usize) -> usize
     requires { line ≤ length s.now }
     ensures { ArrowOrEnd s.now line result }
 {
     for i in line..s.len() {
-        if s[i] == b'\n' || arrow_at(s, i) {
+        if s[i] == b'\n' || arrow_here(s, i) {
             return i;
         }
     }
     s.len()
+}
+
+// Where a line ends of which an arrow stands here, or which ends here.
+#[inline(always)]
+fn line_end(s: &[u8], mark: usize, arrow: bool) -> usize
+    requires { arrow ≡ false → line_at s.now mark ≡ [] }
+    ensures { result ≡ mark + length (line_at s.now mark) }
+{
+    if arrow {
+        past(s, mark, ByteKind::Until(b'\n'))
+    } else {
+        mark
+    }
 }
 
 // The lines from `from` on that a block takes whose first lines are known so far. Each byte is looked at once.
@@ -125,14 +158,14 @@ pub(crate) fn collect(s: &[u8], from: usize, known: Head) -> Stop
     };
     loop {
         let mark = arrow_or_end(s, stop.at);
-        let arrow = arrow_at(s, mark);
+        let arrow = has_arrow(s, mark);
         if arrow && stop.head.left == 0 {
             return Stop {
                 why: Why::Arrow,
                 ..stop
             };
         }
-        let end = past(s, mark, ByteKind::Until(b'\n'));
+        let end = line_end(s, mark, arrow);
         if end == stop.at {
             return Stop {
                 why: Why::EmptyLine,

@@ -1,6 +1,6 @@
 use Prim.Native.Nat.{ℕ, ◌≤◌}
 use lib.ListN.{length}
-use mathlib.Core.Path.{◌≡◌, ◌∙◌}
+use mathlib.Core.Path.{◌≡◌, sym, ◌∙◌}
 use mathlib.Core.Bool.{Bool, true, false, ◌&&◌}
 use mathlib.Core.Logic.{◌⊎◌, inl, inr}
 use native.Mathlib.Omega.{arith}
@@ -20,15 +20,18 @@ loop-stop-init c =
 pub returns-then-stop-eq0 : goal.returns-then-stop-eq0
 returns-then-stop-eq0 c =
     let st = c.loop-stop.stop in
-    stops_at_arrow c.args.s.now st.head st.to st.at c.arrow_or_end-mark.result st.lines c.arrow_at-arrow.result c.arrow_or_end-mark.ensures c.arrow_at-arrow.ensures
+    stops_at_arrow c.args.s.now st.head st.to st.at c.arrow_or_end-mark.result st.lines c.has_arrow-arrow.result c.arrow_or_end-mark.ensures c.has_arrow-arrow.ensures
     c.if-stop-eq0.true c.if-arrow.true
     ∙ c.loop-stop.invariant.gives
+
+pub line_end-end-requires : goal.line_end-end-requires
+line_end-end-requires c none = c.arrow_or_end-mark.ensures.ends (sym c.has_arrow-arrow.ensures ∙ none)
 
 pub returns-then-end-stop : goal.returns-then-end-stop
 returns-then-end-stop c =
     let st = c.loop-stop.stop in
-    stops_at_empty c.args.s.now st.head st.to st.at c.arrow_or_end-mark.result st.lines c.arrow_at-arrow.result c.arrow_or_end-mark.ensures c.arrow_at-arrow.ensures
-    c.past-end.result c.past-end.ensures c.if-end-stop.true
+    stops_at_empty c.args.s.now st.head st.to st.at c.arrow_or_end-mark.result st.lines c.has_arrow-arrow.result c.arrow_or_end-mark.ensures c.has_arrow-arrow.ensures
+    c.line_end-end.result c.line_end-end.ensures c.if-end-stop.true
     ∙ c.loop-stop.invariant.gives
 
 -- where an arrow stands, it can be the timing line's
@@ -40,15 +43,15 @@ pub returns-then-end-s : goal.returns-then-end-s
 returns-then-end-s c =
     let st = c.loop-stop.stop in
     rw c.after-stop.ensures
-    (stops_at_end c.args.s.now st.head st.to st.at c.arrow_or_end-mark.result st.lines c.arrow_at-arrow.result c.arrow_or_end-mark.ensures c.arrow_at-arrow.ensures
-    c.past-end.result c.past-end.ensures c.if-end-stop.false (no_stop st.head.left c.arrow_at-arrow.result c.else-arrow.either) c.if-end-s.true
+    (stops_at_end c.args.s.now st.head st.to st.at c.arrow_or_end-mark.result st.lines c.has_arrow-arrow.result c.arrow_or_end-mark.ensures c.has_arrow-arrow.ensures
+    c.line_end-end.result c.line_end-end.ensures c.if-end-stop.false (no_stop st.head.left c.has_arrow-arrow.result c.else-arrow.either) c.if-end-s.true
     ∙ c.loop-stop.invariant.gives)
 
-inside : (c : Else-end-stop) → c.past-end.result ≤ length c.args.s.now
+inside : (c : Else-end-stop) → c.line_end-end.result ≤ length c.args.s.now
 inside c =
     let st = c.loop-stop.stop in
-    end_inside c.args.s.now st.head st.to st.at c.arrow_or_end-mark.result st.lines c.arrow_at-arrow.result c.arrow_or_end-mark.ensures c.arrow_at-arrow.ensures
-    c.past-end.result c.past-end.ensures
+    end_inside c.args.s.now st.head st.to st.at c.arrow_or_end-mark.result st.lines c.has_arrow-arrow.result c.arrow_or_end-mark.ensures c.has_arrow-arrow.ensures
+    c.line_end-end.result c.line_end-end.ensures
 
 pub overflow_add-stop-in-loop-stop : goal.overflow_add-stop-in-loop-stop
 overflow_add-stop-in-loop-stop c = omega (arith, inside (goal.at.overflow_add-stop-in-loop-stop c).Else-end-stop)
@@ -61,7 +64,7 @@ loop-stop-preserved c =
       inside = omega arith;
       few = omega (arith, c.arrow_or_end-mark.ensures.begins);
       gives = rw c.after-stop.ensures
-          (takes c.args.s.now st.head st.to st.at c.arrow_or_end-mark.result st.lines c.arrow_at-arrow.result c.arrow_or_end-mark.ensures c.arrow_at-arrow.ensures
-          c.past-end.result c.past-end.ensures c.if-end-stop.false (no_stop st.head.left c.arrow_at-arrow.result c.else-arrow.either)
+          (takes c.args.s.now st.head st.to st.at c.arrow_or_end-mark.result st.lines c.has_arrow-arrow.result c.arrow_or_end-mark.ensures c.has_arrow-arrow.ensures
+          c.line_end-end.result c.line_end-end.ensures c.if-end-stop.false (no_stop st.head.left c.has_arrow-arrow.result c.else-arrow.either)
           ∙ c.loop-stop.invariant.gives);
     }
