@@ -6,6 +6,8 @@ use Rattle.replace.specs.NewCue.{in_place}
 use Rattle.replace.proofs.FileLaws.{file-is}
 use Rattle.replace.proofs.make_file.Goals as goal
 
+-- What is put is the new file, wherever the cue's lines are found, so that what is made of it is the file,
+-- or the refusal that its length gives.
 pub returns : goal.returns
 returns c number own =
     let args = c.args in

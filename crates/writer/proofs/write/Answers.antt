@@ -14,6 +14,8 @@ returns-in_err-check c =
     let q = rw (sym is) at p in
     record { answer = q.answer; out = q.out; back = q.back }
 
+-- The lists are writable here, so that what is answered is what making the file answers: `not_made` says so of each refusal,
+-- and `made` where the file stands.
 pub returns-in_err-make_file : goal.returns-in_err-make_file
 returns-in_err-make_file c =
     let args = c.args in
