@@ -144,7 +144,8 @@ fn line_end(s: &[u8], mark: usize, arrow: bool) -> usize
     }
 }
 
-// The lines from `from` on that a block takes whose first lines are known so far. Each byte is looked at once.
+// The lines from `from` on that a block takes whose first lines are known so far. Each byte is passed once; at a hyphen the two after it are
+// looked at too.
 pub(crate) fn collect(s: &[u8], from: usize, known: Head) -> Stop
     requires { from ≤ length s.now }
     ensures { result ≡ collect_from known from (lines_from s.now from) }
