@@ -6,6 +6,7 @@ use native.Mathlib.Omega.{arith}
 use lib.Dec.{ltb}
 use lib.ListN.{length, take, length-map}
 use borrow.Author.Tests.{ltb-false}
+use Rattle.std.specs.Prelude.{Err}
 use Rattle.laws.proofs.Answers.{after_test, front, reaches}
 use Rattle.laws.proofs.Rows.{rows_say, stored-length}
 use Rattle.format.specs.Answers.{Answer, accepted, refused, if_accepted, and_then}
@@ -18,11 +19,12 @@ use Rattle.format.specs.declared.errors.ConvertError.{ConvertError}
 use Rattle.format.specs.declared.errors.TextError.{TextError}
 use Rattle.format.specs.declared.errors.ListsError.{ListsError}
 use Rattle.format.specs.declared.errors.ReadFileError.{ReadFileError}
-use Rattle.format.specs.Reading.{text_error, lists_error, read_file_error, counts, reading, reading_raw, file_reading, after_reading}
+use Rattle.format.specs.declared.errors.RewriteError.{RewriteError}
+use Rattle.format.specs.Reading.{text_error, lists_error, read_file_error, counts, reading, reading_raw, file_reading_is, file_reading, after_reading}
 use Rattle.format.specs.Contents.{stored_contents}
 use Rattle.format.specs.Written.{written}
 use Rattle.format.specs.Writing.{file_of}
-use Rattle.format.specs.Rewriting.{lengths, reading_in, rewritten_file, rewriting, rewritten_room}
+use Rattle.format.specs.Rewriting.{rewrite_error, rewriting_is, lengths, reading_in, rewritten_file, rewriting, rewritten_room}
 use Rattle.reader.proofs.FileLaws.{counted}
 
 -- a refusal to read the file is one of converting and reading
@@ -49,9 +51,10 @@ rewriting-refused raw text cues regions styles out e = rw (file-refused raw (len
 -- so it is with each refusal to read the file
 pub not_rewritten :
     (raw text : List ℕ) (cues regions styles : List (List ℕ)) (out : List ℕ) (e : ReadFileError)
-    → read_file_error e ≡ file_reading raw (length text) (length cues) (length regions) (length styles)
-    → (read_file_error e ≡ rewriting raw (lengths text cues regions styles out)) × (out ≡ rewritten_room raw (lengths text cues regions styles out) out)
-unfolding read_file_error convert_error lists_error text_error
+    → let lent = lengths text cues regions styles out in
+    file_reading_is (Err e) ≡ file_reading raw (length text) (length cues) (length regions) (length styles)
+    → (rewriting_is (Err (RewriteError.Read e)) ≡ rewriting raw lent) × (out ≡ rewritten_room raw lent out)
+unfolding file_reading_is rewriting_is rewrite_error read_file_error convert_error lists_error text_error
 not_rewritten raw text cues regions styles out (ReadFileError.Convert ConvertError.TooLong) h = rewriting-refused raw text cues regions styles out h
 not_rewritten raw text cues regions styles out (ReadFileError.Convert (ConvertError.RoomTooShort n)) h = rewriting-refused raw text cues regions styles out h
 not_rewritten raw text cues regions styles out (ReadFileError.Lists (ListsError.Text TextError.NoSignature)) h = rewriting-refused raw text cues regions styles out h

@@ -14,6 +14,7 @@ use format::rows::{CueRow, RegionRow, StyleRow};
 
 // Rewrites a raw file. Its plain text goes to `text`, its lists to the tables, and the written form to `out`. Text room and tables are scratch
 // for this call: where a later step refuses, they hold what the steps before it made.
+#[tactic(auto, using(crate::proofs::RewriteLaws::not_rewritten), unfolding(format::specs::Rewriting::reading_in, format::specs::Rewriting::lengths))]
 pub fn rewrite(
     raw: &[u8],
     text: &mut [u8],

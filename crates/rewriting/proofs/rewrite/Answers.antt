@@ -1,11 +1,11 @@
-use Prim.Native.Nat.{ℕ}
-use mathlib.Core.Path.{◌≡◌, sym}
-use mathlib.Core.List.{List}
+use mathlib.Core.Path.{◌≡◌, refl, sym, ◌∙◌}
 use lib.ListN.{length}
 use lib.Seq.{length-take-le}
 use Rattle.std.proofs.lemmas.Result.{err_from_is_err_and}
 use Rattle.format.specs.Answers.{if_accepted, and_then}
 use Rattle.format.specs.Plain.{plain_text}
+use Rattle.format.specs.Lists.{lists}
+use Rattle.format.specs.Rows.{region_rows, style_rows, stored_cues}
 use Rattle.format.specs.Reading.{count_values, file_lists_told, file_reading_is}
 use Rattle.format.specs.Writing.{writing_is, written_room}
 use Rattle.format.specs.Rewriting.{rewrite_error, rewriting_is, lengths, reading_in, writing_of, rewriting, rewritten_room}
@@ -14,22 +14,12 @@ use Rattle.rewriting.proofs.RewriteLaws.{FileRead, file_read, not_rewritten, Sta
 use Rattle.rewriting.proofs.rewrite.Goals as goal
 use Rattle.rewriting.proofs.rewrite.Goals.{In_ok-lists}
 
-pub returns-in_err-lists : goal.returns-in_err-lists
-unfolding file_reading_is rewriting_is rewrite_error reading_in lengths
-returns-in_err-lists c =
+-- A refusal to read is the answer, which the check finds by `not_rewritten`,
+-- and it leaves the output room as it was.
+pub returns-in_err-lists-clause-out : goal.returns-in_err-lists-clause-out
+returns-in_err-lists-clause-out c =
     let a = c.args in
-    let p = err_from_is_err_and c.from_residual.result c.from_residual.ensures.1 in
-    let told = c.in_err-lists.ensures in
-    let refusal = not_rewritten a.raw.now a.text.now a.cues.now a.regions.now a.styles.now a.out.now c.in_err-lists.field-0.0 told.answer in
-    rw (p.1, p.2)
-    (record {
-      answer = refusal.0;
-      text = told.text;
-      cues = told.cues;
-      regions = told.regions;
-      styles = told.styles;
-      out = refusal.1;
-    })
+    (not_rewritten a.raw.now a.text.now a.cues.now a.regions.now a.styles.now a.out.now c.in_err-lists.field-0.0 c.in_err-lists.ensures.answer).1
 
 -- the file was read
 was_read :
@@ -81,44 +71,54 @@ slice_bounds-write-end-7 c = (rows (goal.at.slice_bounds-write-end-7 c).In_ok-li
 pub slice_bounds-write-end-8 : goal.slice_bounds-write-end-8
 slice_bounds-write-end-8 c = sym (length-take-le _ _ (rows (goal.at.slice_bounds-write-end-8 c).In_ok-lists).cues_reach)
 
-pub returns-in_err-write : goal.returns-in_err-write
-unfolding writing_is rewriting_is rewrite_error rewriting rewritten_room reading_in lengths and_then if_accepted writing_of written_room
-returns-in_err-write c =
-    let a = c.args in
+-- What writing the lists that were read answers is what rewriting answers,
+-- and the room that it leaves is the room that rewriting leaves.
+answer_of :
+    (c : In_ok-lists)
+    → let a = c.args in
+    writing_of (plain_text a.raw.now) (length a.out.now) ≡ rewriting a.raw.now (lengths a.text.now a.cues.now a.regions.now a.styles.now a.out.now)
+unfolding rewriting reading_in lengths and_then if_accepted
+answer_of c = rw (was_read c).whole refl
+
+room_of :
+    (c : In_ok-lists)
+    → let a = c.args in
     let s = plain_text a.raw.now in
-    let read = (goal.at.returns-in_err-write c).In_ok-lists in
-    let f = was_read read in
+    written_room s (style_rows (lists s).styles) (region_rows (lists s).regions) (stored_cues s) a.out.now ≡ rewritten_room a.raw.now (lengths a.text.now a.cues.now a.regions.now a.styles.now a.out.now) a.out.now
+unfolding rewriting rewritten_room reading_in lengths and_then if_accepted writing_of written_room
+room_of c =
+    let a = c.args in
+    let f = was_read c in
+    let file = file-is (plain_text a.raw.now) (length a.cues.now) (length a.regions.now) (length a.styles.now) _ f.lists_read in
+    rw (f.whole, file) refl
+
+pub returns-in_err-write-clause-answer : goal.returns-in_err-write-clause-answer
+unfolding writing_is writing_of rewriting_is rewrite_error
+returns-in_err-write-clause-answer c =
+    let read = (goal.at.returns-in_err-write-clause-answer c).In_ok-lists in
     let at = rows read in
     let p = err_from_is_err_and c.from_residual-in_err-write.result c.from_residual-in_err-write.ensures.1 in
     let told = rw ((plain read).text, at.styles, at.regions, at.cues) at c.in_err-write.ensures.answer in
-    let out = rw ((plain read).text, at.styles, at.regions, at.cues) at c.in_err-write.ensures.out in
-    let file = file-is s (length a.cues.now) (length a.regions.now) (length a.styles.now) _ f.lists_read in
-    rw (p.1, p.2)
-    (record {
-      answer = rw f.whole told;
-      text = c.read_file.ensures.text;
-      cues = c.read_file.ensures.cues;
-      regions = c.read_file.ensures.regions;
-      styles = c.read_file.ensures.styles;
-      out = rw (f.whole, file) out;
-    })
+    rw (p.1, p.2) (told ∙ answer_of read)
 
-pub returns : goal.returns
-unfolding writing_is rewriting_is rewriting rewritten_room reading_in lengths and_then if_accepted writing_of written_room
-returns c =
-    let a = c.args in
-    let s = plain_text a.raw.now in
-    let read = (goal.at.returns c).In_ok-lists in
-    let f = was_read read in
+pub returns-in_err-write-clause-out : goal.returns-in_err-write-clause-out
+returns-in_err-write-clause-out c =
+    let read = (goal.at.returns-in_err-write-clause-out c).In_ok-lists in
+    let at = rows read in
+    let left = rw ((plain read).text, at.styles, at.regions, at.cues) at c.in_err-write.ensures.out in
+    left ∙ room_of read
+
+pub returns-clause-answer : goal.returns-clause-answer
+unfolding writing_is writing_of rewriting_is
+returns-clause-answer c =
+    let read = (goal.at.returns-clause-answer c).In_ok-lists in
     let at = rows read in
     let told = rw ((plain read).text, at.styles, at.regions, at.cues) at c.in_ok-write.ensures.answer in
-    let out = rw ((plain read).text, at.styles, at.regions, at.cues) at c.in_ok-write.ensures.out in
-    let file = file-is s (length a.cues.now) (length a.regions.now) (length a.styles.now) _ f.lists_read in
-    record {
-      answer = rw f.whole told;
-      text = c.read_file.ensures.text;
-      cues = c.read_file.ensures.cues;
-      regions = c.read_file.ensures.regions;
-      styles = c.read_file.ensures.styles;
-      out = rw (f.whole, file) out;
-    }
+    told ∙ answer_of read
+
+pub returns-clause-out : goal.returns-clause-out
+returns-clause-out c =
+    let read = (goal.at.returns-clause-out c).In_ok-lists in
+    let at = rows read in
+    let left = rw ((plain read).text, at.styles, at.regions, at.cues) at c.in_ok-write.ensures.out in
+    left ∙ room_of read
