@@ -144,8 +144,8 @@ fn line_end(s: &[u8], mark: usize, arrow: bool) -> usize
     }
 }
 
-// The lines from `from` on that a block takes whose first lines are known so far. Each byte is passed once; at a hyphen the two after it are
-// looked at too.
+// The lines from `from` on that a block takes whose first lines are known so far. No byte is passed twice. Looked at again are only the byte at
+// which the search in a line stops and, at a hyphen up to there, that hyphen and at most the two bytes after it.
 pub(crate) fn collect(s: &[u8], from: usize, known: Head) -> Stop
     requires { from ≤ length s.now }
     ensures { result ≡ collect_from known from (lines_from s.now from) }

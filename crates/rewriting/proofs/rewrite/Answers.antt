@@ -14,8 +14,8 @@ use Rattle.rewriting.proofs.RewriteLaws.{FileRead, file_read, not_rewritten, Sta
 use Rattle.rewriting.proofs.rewrite.Goals as goal
 use Rattle.rewriting.proofs.rewrite.Goals.{In_ok-lists}
 
--- A refusal to read is the answer, which the check finds by `not_rewritten`,
--- and it leaves the output room as it was.
+-- a refusal to read is the answer, which the check finds by `not_rewritten`,
+-- and it leaves the output room as it was
 pub returns-in_err-lists-clause-out : goal.returns-in_err-lists-clause-out
 returns-in_err-lists-clause-out c =
     let a = c.args in
@@ -71,8 +71,8 @@ slice_bounds-write-end-7 c = (rows (goal.at.slice_bounds-write-end-7 c).In_ok-li
 pub slice_bounds-write-end-8 : goal.slice_bounds-write-end-8
 slice_bounds-write-end-8 c = sym (length-take-le _ _ (rows (goal.at.slice_bounds-write-end-8 c).In_ok-lists).cues_reach)
 
--- What writing the lists that were read answers is what rewriting answers,
--- and the room that it leaves is the room that rewriting leaves.
+-- what writing the lists that were read answers is what rewriting answers,
+-- and the room that it leaves is the room that rewriting leaves
 answer_of :
     (c : In_ok-lists)
     → let a = c.args in

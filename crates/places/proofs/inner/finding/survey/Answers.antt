@@ -22,8 +22,8 @@ loop-block-init c =
     let rest = after-header args.s.now in
     rw c.past_header-at.ensures (walk_start args.s.now args.number args.name.now (header_end args.s.now) rest.0 rest.1)
 
--- After the last block none is left,
--- so that what was found is what the text has.
+-- after the last block none is left,
+-- so that what was found is what the text has
 pub returns : goal.returns
 returns c =
     let args = c.args in
