@@ -9,7 +9,19 @@ use Rattle.format.specs.Texts.{same}
 use Rattle.format.specs.CueSettings.{direction, alignment}
 use Rattle.format.specs.declared.settings.Direction.{Direction}
 use Rattle.format.specs.declared.settings.Align.{Align}
-use Rattle.setting_words.specs.Words.{line_word, position_word}
+use Rattle.setting_words.specs.Words.{cue_name_is, line_word, position_word}
+use Rattle.setting_words.specs.declared.CueName.{CueName}
+
+pub name_other :
+    (x : List ℕ)
+    → same x (ascii "region") ≡ false
+    → same x (ascii "vertical") ≡ false
+    → same x (ascii "line") ≡ false
+    → same x (ascii "position") ≡ false
+    → same x (ascii "size") ≡ false
+    → same x (ascii "align") ≡ false
+    → CueName.Other ≡ cue_name_is x
+name_other x region vertical line position size align = rw (region, vertical, line, position, size, align)
 
 pub direction_none : (x : List ℕ) (d : Direction) → same x (ascii "rl") ≡ false → same x (ascii "lr") ≡ false → d ≡ direction x d
 unfolding direction

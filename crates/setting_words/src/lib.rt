@@ -5,10 +5,37 @@ ghost use Rattle.std.specs.Prelude.{◌≡◌, MatchOption, true, false};
 ghost use Rattle.format.specs.Bytes.{comma};
 ghost use Rattle.format.specs.Texts.{has, after_first};
 ghost use Rattle.format.specs.CueSettings.{direction, alignment, line_align, position_align};
-ghost use Rattle.setting_words.specs.Words.{line_word, position_word};
+ghost use Rattle.setting_words.specs.Words.{cue_name_is, line_word, position_word};
 
 use format::settings::{Align, Direction, LineAlign, PositionAlign};
 use values::bytes::{ByteKind, past};
+
+// A setting by its name.
+#[derive(Clone, Copy)]
+pub enum CueName {
+    Region,
+    Vertical,
+    Line,
+    Position,
+    Size,
+    Align,
+    Other,
+}
+
+#[tactic(auto, using(laws::proofs::NotNames::not_named, crate::proofs::WordLaws::name_other), unfolding(format::specs::Texts::same))]
+pub fn cue_name(name: &[u8]) -> CueName
+    ensures { result ≡ cue_name_is name.now }
+{
+    match name {
+        b"region" => CueName::Region,
+        b"vertical" => CueName::Vertical,
+        b"line" => CueName::Line,
+        b"position" => CueName::Position,
+        b"size" => CueName::Size,
+        b"align" => CueName::Align,
+        _ => CueName::Other,
+    }
+}
 
 #[tactic(auto, using(laws::proofs::NotNames::not_named, crate::proofs::WordLaws::direction_none), unfolding(format::specs::CueSettings::direction, format::specs::Texts::same))]
 pub fn direction_of(value: &[u8], current: Direction) -> Direction
