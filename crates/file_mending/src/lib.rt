@@ -22,6 +22,6 @@ pub fn mend_file<R: Read, W: Write>(
     match mending::mend(&input[..n], longer, text, room) {
         Ok(length) => out.write_all(part(room, 0, length)),
         Err(MendError::BadRequest) => out.write_all(b"bad request\n"),
-        Err(MendError::Replace(why)) => listing::refuse(out, why),
+        Err(MendError::Replace(why)) => listing::refuse(out, answers::number(why)),
     }
 }

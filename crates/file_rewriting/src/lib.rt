@@ -26,6 +26,6 @@ pub fn rewrite_file<R: Read, W: Write>(
     }
     match rewriting::rewrite(&raw[..n], text, cues, regions, styles, room) {
         Ok(length) => out.write_all(part(room, 0, length)),
-        Err(why) => listing::refuse(out, why),
+        Err(why) => listing::refuse(out, answers::number(why)),
     }
 }

@@ -9,7 +9,6 @@ ghost use Rattle.format.specs.Answers.{accepted, answered, refusal_number};
 ghost use Rattle.format.specs.Converting.{converted_room};
 ghost use Rattle.format.specs.Reading.{read_file_error, reading_raw, after_reading};
 
-use answers::Told;
 use format::rows::{CueRow, RegionRow, StyleRow};
 use format::{ConvertError, ReadFileError};
 use std::io;
@@ -25,9 +24,11 @@ mod region_lines;
 mod style_lines;
 pub mod trees;
 
-// The line of a refusal.
-pub fn refuse<W: Write, E: Told>(out: &mut W, error: E) -> io::Result<()> {
-    let number = answers::number(error);
+// The line of a refusal; none for 0, which is no refusal's number.
+pub fn refuse<W: Write>(out: &mut W, number: u64) -> io::Result<()> {
+    if number == 0 {
+        return Ok(());
+    }
     printing::print(out, b"refused")?;
     printing::number(out, number)?;
     printing::print(out, b"\n")
@@ -40,7 +41,7 @@ pub fn refuse_more<R: Read, W: Write>(file: &mut R, out: &mut W) -> io::Result<b
     if !input::has_more(file)? {
         return Ok(false);
     }
-    refuse(out, ConvertError::TooLong)?;
+    refuse(out, answers::number(ConvertError::TooLong))?;
     Ok(true)
 }
 
@@ -90,6 +91,6 @@ pub fn show_file<R: Read, W: Write>(
     }
     match show(out, &raw[..n], text, cues, regions, styles)? {
         Ok(()) => Ok(()),
-        Err(why) => refuse(out, why),
+        Err(why) => refuse(out, answers::number(why)),
     }
 }

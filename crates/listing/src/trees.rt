@@ -46,6 +46,6 @@ pub fn show_file<R: Read, W: Write>(
     }
     match show(out, &raw[..n], room, nodes)? {
         Ok(()) => Ok(()),
-        Err(why) => super::refuse(out, why),
+        Err(why) => super::refuse(out, answers::number(why)),
     }
 }
