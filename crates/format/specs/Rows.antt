@@ -234,7 +234,6 @@ unfoldable pub ids : List RegionValues → List (List ℕ)
 ids [] = []
 ids (r ∷ rs) = r.id.bytes ∷ ids rs
 
--- an index, or none, as an entry has it
 -- the region that a cue asks for by this name, in this list; an empty name asks for none
 unfoldable pub region_for : List RegionValues → Part → Option ℕ
 region_for rs name = cond (is_empty name.bytes) None (last_named 0 name.bytes (ids rs))

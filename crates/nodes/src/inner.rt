@@ -1,2 +1,2 @@
-// Functions for the crates above: they take a token that was found in the text.
+// Functions for the crates above: they ask for a token that was found in the text, or for a text and a place within the limits.
 pub mod tokens;

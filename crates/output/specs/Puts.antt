@@ -1,5 +1,5 @@
 -- Putting bytes into an output room from a place on. What lies outside the room is only counted, and the count stops at the first number
--- above the greatest length of a file: the same functions measure a file, in a room of no length, and write it.
+-- above the greatest length of a file: the same functions measure a file, in a room of one byte, and write it.
 use Rattle.std.specs.Prelude.{ℕ, ◌+◌, ◌≡◌, cond, List, [], ◌∷◌, ltb, set}
 use Rattle.format.specs.Limits.{max_file}
 use Rattle.std.specs.Prelude.{Result, Ok, Err, length}

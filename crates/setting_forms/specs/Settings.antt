@@ -5,7 +5,7 @@ use Rattle.format.specs.Bytes.{ascii}
 use Rattle.format.specs.Written.{setting, written_five}
 use Rattle.format.specs.declared.rows.CueEntry.{CueEntry}
 
--- the name of the region that a cue asks for, if it asks for one
+-- the setting of the region that a cue asks for, if it asks for one
 unfoldable pub named_region : Option (List ℕ) → List (List ℕ)
 named_region None = []
 named_region (Some name) = setting (ascii "region") name

@@ -1,2 +1,2 @@
-// Functions for the crate above: they ask that the words hold the stack.
+// Functions for the crate above, on a stack whose type says that its words hold it: pushing asks for room.
 pub mod kinds;

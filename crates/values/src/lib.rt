@@ -1,4 +1,4 @@
-// Runs of bytes, names, tokens, numbers and timestamps, read from a text or a part of one. Any bytes are taken; each function ends in linear time.
+// Runs of bytes, tokens, numbers and timestamps, read from a text or a part of one. Any bytes are taken; each function ends in linear time.
 #![tactic(auto)]
 
 pub mod bytes;
