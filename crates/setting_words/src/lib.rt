@@ -1,4 +1,4 @@
-// The words of a cue's settings: which choice a value means. Any bytes are taken.
+// The words of a cue's settings: which setting a name means, and which choice a value. Any bytes are taken.
 #![tactic(auto)]
 
 ghost use Rattle.std.specs.Prelude.{◌≡◌, MatchOption, true, false};

@@ -16,3 +16,11 @@ returns-in-vertical c = rw (named c.args.name.now (ascii "vertical") (omega arit
 pub returns-in-position : goal.returns-in-position
 unfolding same
 returns-in-position c = rw (named c.args.name.now (ascii "position") (omega arith) (search rules))
+
+pub returns-in-size : goal.returns-in-size
+unfolding same
+returns-in-size c = rw (named c.args.name.now (ascii "size") (omega arith) (search rules))
+
+pub returns-in-align : goal.returns-in-align
+unfolding same
+returns-in-align c = rw (named c.args.name.now (ascii "align") (omega arith) (search rules))
