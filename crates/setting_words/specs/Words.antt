@@ -7,6 +7,7 @@ use Rattle.format.specs.declared.settings.LineAlign.{LineAlign}
 use Rattle.format.specs.declared.settings.PositionAlign.{PositionAlign}
 use Rattle.setting_words.specs.declared.CueName.{CueName}
 
+-- one setting by its name; a name that no setting has is `Other`
 abbrev pub cue_name_is : List ℕ → CueName
 cue_name_is n =
     cond (same n (ascii "region")) CueName.Region

@@ -22,6 +22,7 @@ pub enum CueName {
     Other,
 }
 
+// The setting that has this name.
 #[tactic(auto, using(laws::proofs::NotNames::not_named, crate::proofs::WordLaws::name_other), unfolding(format::specs::Texts::same))]
 pub fn cue_name(name: &[u8]) -> CueName
     ensures { result ≡ cue_name_is name.now }
